@@ -1,0 +1,52 @@
+-- The words that the contracts of sources, sinks and stores share. What their members tell is an
+-- `Option`: None claims nothing, and what is told stays told. This project's own.
+use Rattle.std.specs.Prelude.{◌≡◌, ℕ, ◌+◌, ◌-◌, ◌^◌, ◌<◌, ◌≤◌, ◌⊎◌, ◌++◌, List, [], ◌∷◌, Option, Some, None, length, take}
+
+-- the count is greater than at the start of the call, or stands at the last value of u64
+abbrev pub Rose : ℕ → ℕ → Type 0
+Rose old new = (old < new) ⊎ (new ≡ 2 ^ 64 - 1)
+
+-- the count is not less than at the start of the call
+abbrev pub NotFallen : ℕ → ℕ → Type 0
+NotFallen old new = old ≤ new
+
+-- the bytes grew by a front part of the piece
+abbrev pub AppendsPart : Option (List ℕ) → Option (List ℕ) → List ℕ → Type 0
+AppendsPart None new piece = Unit {0}
+AppendsPart (Some before) None piece = ⊥
+AppendsPart (Some before) (Some after) piece =
+    (length before ≤ length after) × (take (length after) (before ++ piece) ≡ after)
+
+-- where both are told: with the bytes that are missing the piece would be whole
+abbrev pub Misses : Option (List ℕ) → Option (List ℕ) → Option ℕ → List ℕ → Type 0
+Misses None new missing piece = Unit {0}
+Misses (Some before) None missing piece = Unit {0}
+Misses (Some before) (Some after) None piece = Unit {0}
+Misses (Some before) (Some after) (Some missing) piece =
+    length after + missing ≡ length before + length piece
+
+-- where both are told: all is longer than what was appended, by the missing bytes at least
+abbrev pub MissesAtLeast : Option (List ℕ) → Option (List ℕ) → Option ℕ → List ℕ → Type 0
+MissesAtLeast None new missing all = Unit {0}
+MissesAtLeast (Some before) None missing all = Unit {0}
+MissesAtLeast (Some before) (Some after) None all = Unit {0}
+MissesAtLeast (Some before) (Some after) (Some missing) all =
+    length after + missing ≤ length before + length all
+
+-- a good read of a store: its place, how many bytes were asked for, and the bytes that came
+pub record StoreRead : Type 0 where
+  pub at : ℕ
+  pub asked : ℕ
+  pub bytes : List ℕ
+
+-- the good reads grew by this one
+abbrev pub Serves : Option (List StoreRead) → Option (List StoreRead) → StoreRead → Type 0
+Serves None new read = Unit {0}
+Serves (Some before) None read = ⊥
+Serves (Some before) (Some after) read = after ≡ before ++ (read ∷ [])
+
+-- the good reads are those of before
+abbrev pub KeepsServed : Option (List StoreRead) → Option (List StoreRead) → Type 0
+KeepsServed None new = Unit {0}
+KeepsServed (Some before) None = ⊥
+KeepsServed (Some before) (Some after) = after ≡ before

@@ -1,0 +1,87 @@
+//! A store over a file. It adds a count to each error, and loops over short reads.
+ghost use Rattle.std.specs.Prelude.{◌≡◌, ◌+◌, ◌-◌, ◌^◌, None, is_some, min, length, take, not, IsTrue, IfOk, OnOk, OnErr, IsErr};
+ghost use Rattle.std.specs.Io.{ReadsAtMost};
+ghost use Rattle.acl_outside.specs.Outside.{Rose, NotFallen, StoreRead, Serves, KeepsServed};
+
+use crate::{Failed, Store};
+use std::fs::File;
+use std::io::ErrorKind;
+use std::marker::Model;
+use std::os::unix::fs::FileExt;
+
+/// A file, or none where it could not be opened: then each read fails. It tells nothing of its bytes.
+#[derive(Drop)]
+pub struct FileStore {
+    inner: Option<File>,
+    faults: u64,
+}
+
+impl Model for FileStore {
+    ghost use Rattle.std.specs.Prelude.{is_some};
+    ghost use Rattle.acl_outside.specs.Adapters.{FileSeen};
+
+    ghost Value = { FileSeen };
+
+    ghost view = { λ s. record { is_there = is_some s.inner; faults = s.faults } };
+}
+
+impl FileStore {
+    /// A store over this file.
+    pub fn new(inner: Option<File>) -> FileStore
+        ensures is_there { result.is_there ≡ is_some inner }
+        ensures faults { result.faults ≡ 0 }
+    {
+        FileStore { inner, faults: 0 }
+    }
+}
+
+impl Store for FileStore {
+    ghost holds = { λ _. None };
+
+    ghost served = { λ _. None };
+
+    ghost faults = { λ s. s.faults };
+
+    fn read_at(&mut self, at: u64, into: &mut [u8]) -> Result<usize, Failed>
+        ensures within { ReadsAtMost result into.new }
+        ensures served_ok { IfOk result (λ n. Serves None None
+            (record { at = at; asked = length into.new; bytes = take n into.new })) }
+        ensures served_err { OnErr result (KeepsServed None None) }
+        ensures cause { OnErr result (Rose self.old.faults self.new.faults) }
+        ensures never_falls { NotFallen self.old.faults self.new.faults }
+
+        ensures without { IsTrue (not self.old.is_there) → IsErr result }
+        ensures same_file { self.new.is_there ≡ self.old.is_there }
+        ensures no_fault { OnOk result (self.new.faults ≡ self.old.faults) }
+        ensures one_fault { OnErr result (self.new.faults ≡ min (self.old.faults + 1) (2 ^ 64 - 1)) }
+    {
+        if let Some(file) = &self.inner {
+            if let Ok(count) = read_full_at(file, at, into) {
+                return Ok(count);
+            }
+        }
+        self.faults = self.faults.saturating_add(1);
+        Err(Failed)
+    }
+}
+
+// Reads until `into` is full, the file is at its end, or it fails. A read that a signal interrupts is
+// tried again. No file has a byte past the last `i64`, so nothing is asked for there.
+fn read_full_at(file: &File, at: u64, into: &mut [u8]) -> Result<usize, Failed>
+    ensures within { ReadsAtMost result into.new }
+{
+    let mut filled = 0;
+    for _ in 0..u64::MAX {
+        let place = at.saturating_add(filled as u64);
+        if filled == into.len() || i64::try_from(place).is_err() {
+            return Ok(filled);
+        }
+        match file.read_at(&mut into[filled..], place) {
+            Ok(0) => return Ok(filled),
+            Ok(count) => filled += count,
+            Err(error) if error.kind() == ErrorKind::Interrupted => {}
+            Err(_) => return Err(Failed),
+        }
+    }
+    Err(Failed)
+}

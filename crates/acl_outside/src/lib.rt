@@ -1,0 +1,37 @@
+//! The outside as the crates above see it: what gives bytes, what takes them, and what holds them.
+//!
+//! Each trait counts the faults of its object. A call fails only where that count rose, or stands
+//! at the last value of `u64`, so a failure is never made up by the code above.
+#![tactic(auto)]
+
+mod failed;
+mod file_store;
+mod mem_sink;
+mod mem_source;
+mod no_memory;
+mod pieces;
+mod read_fault;
+mod reader_source;
+mod sink;
+mod source;
+mod store;
+mod sure_source;
+mod sure_store;
+mod writer_sink;
+
+pub use failed::Failed;
+pub use file_store::FileStore;
+pub use mem_sink::MemSink;
+pub use mem_source::MemSource;
+pub use no_memory::NoMemory;
+pub use read_fault::ReadFault;
+pub use reader_source::ReaderSource;
+pub use sink::{Sink, finish};
+pub use source::Source;
+pub use store::Store;
+pub use sure_source::SureSource;
+pub use sure_store::SureStore;
+pub use writer_sink::WriterSink;
+
+#[cfg(test)]
+mod tests;

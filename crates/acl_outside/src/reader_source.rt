@@ -1,0 +1,96 @@
+//! A source over a reader of the standard library. It adds a count to each error, and loops over short
+//! reads.
+ghost use Rattle.std.specs.Prelude.{◌≡◌, ◌+◌, ◌-◌, ◌^◌, ◌<◌, None, is_some, min, length, take, not, IsTrue, IfOk, OnOk, OnErr, IsErr};
+ghost use Rattle.std.specs.Option.{option_and_then};
+ghost use Rattle.std.specs.Io.{ReadsAtMost};
+ghost use Rattle.std.specs.Io.KnownBytes.{Consumes, IsAtEnd, Keeps};
+ghost use Rattle.acl_outside.specs.Outside.{Rose, NotFallen};
+
+use crate::{Failed, Source};
+use std::io::{ErrorKind, Read};
+use std::marker::Model;
+
+/// A reader, or none where it could not be opened: then each read fails. It tells nothing of its bytes,
+/// since those that came before an error are gone.
+#[derive(Drop)]
+pub struct ReaderSource<R: Read> {
+    inner: Option<R>,
+    faults: u64,
+}
+
+impl<R: Read> Model for ReaderSource<R> {
+    ghost use Rattle.std.specs.Prelude.{is_some, option_and_then};
+    ghost use Rattle.acl_outside.specs.Adapters.{ReaderSeen};
+
+    ghost Value = { ReaderSeen };
+
+    ghost view = { λ s. record {
+      is_there = is_some s.inner;
+      to_come = option_and_then R.remaining s.inner;
+      faults = s.faults;
+    } };
+}
+
+impl<R: Read> ReaderSource<R> {
+    /// A source over this reader.
+    pub fn new(inner: Option<R>) -> ReaderSource<R>
+        ensures is_there { result.is_there ≡ is_some inner }
+        ensures to_come { result.to_come ≡ option_and_then R.remaining inner }
+        ensures faults { result.faults ≡ 0 }
+    {
+        ReaderSource { inner, faults: 0 }
+    }
+}
+
+impl<R: Read> Source for ReaderSource<R> {
+    ghost left = { λ _. None };
+
+    ghost faults = { λ s. s.faults };
+
+    fn read(&mut self, into: &mut [u8]) -> Result<usize, Failed>
+        ensures within { ReadsAtMost result into.new }
+        ensures good { IfOk result (λ n. Consumes None None (take n into.new)) }
+        ensures end { IfOk result (λ n. n ≡ 0 → 0 < length into.old → IsAtEnd None) }
+        ensures kept { OnErr result (Keeps None None) }
+        ensures cause { OnErr result (Rose self.old.faults self.new.faults) }
+        ensures never_falls { NotFallen self.old.faults self.new.faults }
+
+        // What comes through from the reader.
+        ensures through { IfOk result (λ n. Consumes self.old.to_come self.new.to_come (take n into.new)) }
+        ensures short_at_end { IfOk result (λ n. n < length into.old → IsAtEnd self.new.to_come) }
+        ensures without { IsTrue (not self.old.is_there) → IsErr result }
+        ensures same_reader { self.new.is_there ≡ self.old.is_there }
+        ensures no_fault { OnOk result (self.new.faults ≡ self.old.faults) }
+        ensures one_fault { OnErr result (self.new.faults ≡ min (self.old.faults + 1) (2 ^ 64 - 1)) }
+    {
+        if let Some(reader) = &mut self.inner {
+            if let Ok(count) = read_full(reader, into) {
+                return Ok(count);
+            }
+        }
+        self.faults = self.faults.saturating_add(1);
+        Err(Failed)
+    }
+}
+
+// Reads until `into` is full, the reader is at its end, or it fails. A read that a signal interrupts
+// is tried again.
+fn read_full<R: Read>(reader: &mut R, into: &mut [u8]) -> Result<usize, Failed>
+    ensures within { ReadsAtMost result into.new }
+    ensures consumed { IfOk result (λ n. Consumes (R.remaining reader.old) (R.remaining reader.new) (take n into.new)) }
+    ensures short_at_end { IfOk result (λ n. n < length into.old → IsAtEnd (R.remaining reader.new)) }
+{
+    let mut filled = 0;
+    for _ in 0..u64::MAX {
+        if filled == into.len() {
+            return Ok(filled);
+        }
+        match reader.read(&mut into[filled..]) {
+            Ok(0) => return Ok(filled),
+            Ok(count) => filled += count,
+            Err(error) if error.kind() == ErrorKind::Interrupted => {}
+            Err(_) => return Err(Failed),
+        }
+    }
+    Err(Failed)
+}

@@ -1,0 +1,37 @@
+//! What takes bytes in order. A failed write has taken a front part of its piece, maybe none of it.
+ghost use Rattle.std.specs.Prelude.{ℕ, Option, List, [], OnOk, OnErr};
+ghost use Rattle.std.specs.Io.KnownBytes.{Appends, Keeps};
+ghost use Rattle.acl_outside.specs.Outside.{Rose, NotFallen, AppendsPart, Misses};
+
+use crate::Failed;
+
+pub trait Sink {
+    /// All bytes taken so far, where the sink tells them.
+    ghost written: { Self → Option (List ℕ) };
+
+    /// How many bytes of its piece the last failed write did not take, where the sink tells it.
+    ghost missed: { Self → Option ℕ };
+
+    /// How often the sink has failed.
+    ghost faults: { Self → ℕ };
+
+    /// Takes the whole piece, or fails. An empty piece asks the sink to hold no earlier byte back.
+    fn write(&mut self, piece: &[u8]) -> Result<(), Failed>
+        ensures whole { OnOk result (Appends (written self.old) (written self.new) piece.now) }
+        ensures part { OnErr result (AppendsPart (written self.old) (written self.new) piece.now) }
+        ensures missed { OnErr result (Misses (written self.old) (written self.new) (missed self.new) piece.now) }
+
+        ensures cause { OnErr result (Rose (faults self.old) (faults self.new)) }
+        ensures never_falls { NotFallen (faults self.old) (faults self.new) };
+}
+
+/// Asks a sink to hold no earlier byte back, as the last thing that is said to it. Where it fails,
+/// bytes that were taken may be lost, and what the sink tells of them stays as it was.
+pub fn finish<K: Sink>(sink: &mut K) -> Result<(), Failed>
+    ensures kept { Keeps (K.written sink.old) (K.written sink.new) }
+    ensures missed { OnErr result (Misses (K.written sink.old) (K.written sink.new) (K.missed sink.new) []) }
+    ensures cause { OnErr result (Rose (K.faults sink.old) (K.faults sink.new)) }
+    ensures never_falls { NotFallen (K.faults sink.old) (K.faults sink.new) }
+{
+    sink.write(&[])
+}

@@ -1,0 +1,200 @@
+//! Each object in memory call by call, and each adapter over an object of the standard library. The
+//! expected answers follow by hand from the words on each type.
+
+use super::*;
+use std::alloc::Global;
+use std::fs::File;
+use std::io::{Error, ErrorKind, Read, Write};
+use std::process::Abort;
+use std::test::Fail;
+use std::{fs, io};
+
+// Reads into a room of three bytes, and compares the answer and the bytes given.
+fn expect_read<Q: Source>(
+    rt: &impl Abort,
+    source: &mut Q,
+    call: usize,
+    want: Result<&[u8], Failed>,
+) {
+    let mut room = [0u8; 3];
+    let got = source.read(&mut room);
+    match want {
+        Ok(bytes) => {
+            assert_eq!(rt; got, Ok(bytes.len()), "read {call}");
+            assert!(rt; bytes.len() <= 3);
+            assert_eq!(rt; &room[..bytes.len()], bytes, "read {call}");
+        }
+        Err(Failed) => assert_eq!(rt; got, Err(Failed), "read {call}"),
+    }
+}
+
+#[test]
+fn a_source_in_memory_gives_pieces_and_fails_at_the_chosen_calls(
+    rt: HostRuntime,
+) -> Result<(), Fail> {
+    let bytes = Vec::from_slice(rt.alloc(), b"abcde")?;
+    let fails = Vec::from_slice(rt.alloc(), &[1, 3])?;
+    let mut source = MemSource::new(bytes, 2, fails);
+    let answers: [Result<&[u8], Failed>; 6] = [
+        Ok(b"ab"),
+        Err(Failed),
+        Ok(b"cd"),
+        Err(Failed),
+        Ok(b"e"),
+        Ok(b""),
+    ];
+    for (call, want) in answers.iter().enumerate() {
+        expect_read(&rt, &mut source, call, *want);
+    }
+    Ok(())
+}
+
+#[test]
+fn a_sure_source_gives_what_has_room(rt: HostRuntime) -> Result<(), Fail> {
+    let mut source = SureSource::new(Vec::from_slice(rt.alloc(), b"abcde")?);
+    let answers: [Result<&[u8], Failed>; 3] = [Ok(b"abc"), Ok(b"de"), Ok(b"")];
+    for (call, want) in answers.iter().enumerate() {
+        expect_read(&rt, &mut source, call, *want);
+    }
+    Ok(())
+}
+
+fn expect_write<K: Sink>(rt: &impl Abort, sink: &mut K, piece: &[u8], want: Result<(), Failed>) {
+    assert_eq!(rt; sink.write(piece), want, "{piece:?}");
+}
+
+#[test]
+fn a_sink_in_memory_takes_what_fits_and_fails_at_the_chosen_calls(
+    rt: HostRuntime,
+) -> Result<(), Fail> {
+    let fails = Vec::from_slice(rt.alloc(), &[1])?;
+    let mut sink = MemSink::new(rt.alloc(), 5, fails).ok().ok_or("no memory")?;
+    let calls: [(&[u8], Result<(), Failed>, &[u8]); 6] = [
+        (b"ab", Ok(()), b"ab"),
+        (b"cd", Err(Failed), b"ab"),
+        (b"cd", Ok(()), b"abcd"),
+        (b"ef", Err(Failed), b"abcde"),
+        (b"g", Err(Failed), b"abcde"),
+        (b"", Ok(()), b"abcde"),
+    ];
+    for (piece, want, written) in calls {
+        expect_write(&rt, &mut sink, piece, want);
+        assert_eq!(rt; sink.written(), written, "{piece:?}");
+    }
+    Ok(())
+}
+
+fn expect_read_at<S: Store>(rt: &impl Abort, store: &mut S, at: u64, want: &[u8]) {
+    let mut room = [0u8; 3];
+    assert_eq!(rt; store.read_at(at, &mut room), Ok(want.len()), "at {at}");
+    assert!(rt; want.len() <= 3);
+    assert_eq!(rt; &room[..want.len()], want, "at {at}");
+}
+
+#[test]
+fn a_store_gives_the_part_at_a_place_cut_at_its_end(rt: HostRuntime) -> Result<(), Fail> {
+    let path = "acl_outside_store";
+    fs::write(&rt, path, b"abcde")?;
+    let mut in_memory = SureStore::new(Vec::from_slice(rt.alloc(), b"abcde")?);
+    let mut in_file = FileStore::new(Some(File::open(&rt, path)?));
+    let places: [(u64, &[u8]); 6] = [
+        (0, b"abc"),
+        (1, b"bcd"),
+        (3, b"de"),
+        (5, b""),
+        (6, b""),
+        (u64::MAX, b""),
+    ];
+    for (at, want) in places {
+        expect_read_at(&rt, &mut in_memory, at, want);
+        expect_read_at(&rt, &mut in_file, at, want);
+    }
+    fs::remove_file(&rt, path)?;
+    Ok(())
+}
+
+#[test]
+fn an_adapter_without_an_object_fails_at_each_call(rt: HostRuntime) {
+    let mut room = [0u8; 3];
+    let mut source: ReaderSource<File> = ReaderSource::new(None);
+    let mut store = FileStore::new(None);
+    for _ in 0..2 {
+        assert_eq!(rt; source.read(&mut room), Err(Failed));
+        assert_eq!(rt; store.read_at(0, &mut room), Err(Failed));
+    }
+}
+
+// A reader and writer of one byte a call, whose calls in turn succeed, are interrupted, and fail.
+#[derive(Drop)]
+struct Stumbling {
+    calls: u8,
+}
+
+impl Stumbling {
+    fn step(&mut self) -> io::Result<()> {
+        self.calls = self.calls.saturating_add(1);
+        match self.calls {
+            3 => Err(Error::new(ErrorKind::Interrupted, "a signal")),
+            6 => Err(Error::new(ErrorKind::Other, "broken")),
+            _ => Ok(()),
+        }
+    }
+}
+
+impl Read for Stumbling {
+    fn read(&mut self, buf: &mut [u8]) -> io::Result<usize> {
+        if buf.is_empty() {
+            return Ok(0);
+        }
+        self.step()?;
+        buf[0] = b'x';
+        Ok(1)
+    }
+}
+
+impl Write for Stumbling {
+    fn write(&mut self, buf: &[u8]) -> io::Result<usize> {
+        if buf.is_empty() {
+            return Ok(0);
+        }
+        self.step()?;
+        Ok(1)
+    }
+
+    fn flush(&mut self) -> io::Result<()> {
+        self.step()
+    }
+}
+
+#[test]
+fn a_reader_is_read_past_short_reads_and_signals_up_to_its_error(rt: HostRuntime) {
+    let mut stumbling = ReaderSource::new(Some(Stumbling { calls: 0 }));
+    let answers: [Result<&[u8], Failed>; 3] = [Ok(b"xxx"), Err(Failed), Ok(b"xxx")];
+    for (call, want) in answers.iter().enumerate() {
+        expect_read(&rt, &mut stumbling, call, *want);
+    }
+    let bytes: &[u8] = b"abcde";
+    let mut whole = ReaderSource::new(Some(bytes));
+    let answers: [Result<&[u8], Failed>; 3] = [Ok(b"abc"), Ok(b"de"), Ok(b"")];
+    for (call, want) in answers.iter().enumerate() {
+        expect_read(&rt, &mut whole, call, *want);
+    }
+}
+
+#[test]
+fn a_writer_gets_the_whole_piece_or_the_sink_fails(rt: HostRuntime) -> Result<(), Fail> {
+    let mut bytes: Vec<u8> = Vec::new(rt.alloc());
+    let mut sink = WriterSink::new(&mut bytes);
+    expect_write(&rt, &mut sink, b"abc", Ok(()));
+    expect_write(&rt, &mut sink, b"", Ok(()));
+    expect_write(&rt, &mut sink, b"de", Ok(()));
+    drop(sink);
+    assert_eq!(rt; bytes.as_slice(), b"abcde".as_slice());
+
+    // The sixth step is the first flush.
+    let mut stumbling = WriterSink::new(Stumbling { calls: 0 });
+    expect_write(&rt, &mut stumbling, b"abcd", Ok(()));
+    assert_eq!(rt; finish(&mut stumbling), Err(Failed));
+    assert_eq!(rt; finish(&mut stumbling), Ok(()));
+    Ok(())
+}

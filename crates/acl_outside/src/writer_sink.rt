@@ -1,0 +1,66 @@
+//! A sink over a writer of the standard library. It adds a count to each error. The writer may hold
+//! bytes back; an empty piece makes it hand them on, and fails where it can't.
+ghost use Rattle.std.specs.Prelude.{◌≡◌, ◌+◌, ◌-◌, ◌^◌, None, min, OnOk, OnErr};
+ghost use Rattle.std.specs.Io.KnownBytes.{Appends};
+ghost use Rattle.acl_outside.specs.Outside.{Rose, NotFallen, AppendsPart, Misses};
+
+use crate::{Failed, Sink};
+use std::io::Write;
+use std::marker::Model;
+
+/// A writer. It tells nothing of its bytes, since after an error some of the piece may be taken.
+#[derive(Drop)]
+pub struct WriterSink<W: Write> {
+    inner: W,
+    faults: u64,
+}
+
+impl<W: Write> Model for WriterSink<W> {
+    ghost use Rattle.acl_outside.specs.Adapters.{WriterSeen};
+
+    ghost Value = { WriterSeen };
+
+    ghost view = { λ s. record { holds = W.contents s.inner; faults = s.faults } };
+}
+
+impl<W: Write> WriterSink<W> {
+    /// A sink over this writer.
+    pub fn new(inner: W) -> WriterSink<W>
+        ensures holds { result.holds ≡ W.contents inner }
+        ensures faults { result.faults ≡ 0 }
+    {
+        WriterSink { inner, faults: 0 }
+    }
+}
+
+impl<W: Write> Sink for WriterSink<W> {
+    ghost written = { λ _. None };
+
+    ghost missed = { λ _. None };
+
+    ghost faults = { λ s. s.faults };
+
+    fn write(&mut self, piece: &[u8]) -> Result<(), Failed>
+        ensures whole { OnOk result (Appends None None piece.now) }
+        ensures part { OnErr result (AppendsPart None None piece.now) }
+        ensures missed { OnErr result (Misses None None None piece.now) }
+        ensures cause { OnErr result (Rose self.old.faults self.new.faults) }
+        ensures never_falls { NotFallen self.old.faults self.new.faults }
+
+        // What goes through to the writer.
+        ensures through { OnOk result (Appends self.old.holds self.new.holds piece.now) }
+        ensures no_fault { OnOk result (self.new.faults ≡ self.old.faults) }
+        ensures one_fault { OnErr result (self.new.faults ≡ min (self.old.faults + 1) (2 ^ 64 - 1)) }
+    {
+        let done = if piece.is_empty() {
+            self.inner.flush()
+        } else {
+            self.inner.write_all(piece)
+        };
+        if done.is_ok() {
+            return Ok(());
+        }
+        self.faults = self.faults.saturating_add(1);
+        Err(Failed)
+    }
+}
