@@ -1,0 +1,4 @@
+pub mod TextEquations
+pub mod ChainLaws
+pub mod ViewEquations
+pub mod GrantLaws

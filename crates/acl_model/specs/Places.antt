@@ -1,0 +1,57 @@
+-- Where elements stand. A place is a list of child numbers, from the root down and each from 1; the root's is empty.
+use Rattle.std.specs.Prelude.{ℕ, Option, Some, None, List, [], ◌∷◌, ◌++◌, map, zero, suc}
+use Rattle.std.specs.List.{filter_map, flat_map, slice_get}
+use Rattle.std.specs.Option.{option_and_then}
+use Rattle.acl_model.specs.declared.document.Doc.{Doc}
+use Rattle.acl_model.specs.declared.document.Item.{Item, out-Item}
+use Rattle.acl_model.specs.declared.document.Element.{Element}
+use Rattle.acl_model.specs.declared.document.Item.TheOpen.{Item-F, Element-F}
+use Rattle.acl_model.specs.declared.document.Item.TheFolds.{fold-Element}
+
+abbrev pub element_in : Item-F Item Element → Option Element
+element_in (Item-F.Text bytes) = None
+element_in (Item-F.Child e) = Some e
+
+-- the element that an item is, if it is one
+abbrev pub element_of : Item → Option Element
+element_of item = element_in (out-Item item)
+
+-- the element children of items, in order
+abbrev pub children : List Item → List Element
+children items = filter_map element_of items
+
+-- the k-th of them, from 1
+abbrev pub child : List Item → ℕ → Option Element
+child items zero = None
+child items (suc k) = slice_get (children items) k
+
+-- the element at a place that is counted from e on
+abbrev pub below : Element → List ℕ → Option Element
+below e [] = Some e
+below e (k ∷ place) = option_and_then (λ c. below c place) (child e.items k)
+
+-- the element at a place of a document, if there is one
+abbrev pub at : Doc → List ℕ → Option Element
+at d place = below d.root place
+
+-- The prefixes of a place, the longest first: the places of an element and of its ancestors.
+abbrev pub prefixes : List ℕ → List (List ℕ)
+prefixes [] = [] ∷ []
+prefixes (k ∷ place) = map (λ prefix. k ∷ prefix) (prefixes place) ++ ([] ∷ [])
+
+-- ---- the tag set
+
+abbrev names_in_item : Item-F (List (List ℕ)) (List (List ℕ)) → List (List ℕ)
+names_in_item (Item-F.Text bytes) = []
+names_in_item (Item-F.Child names) = names
+
+abbrev names_in_element : Element-F (List (List ℕ)) (List (List ℕ)) → List (List ℕ)
+names_in_element e = e.name ∷ flat_map (λ names. names) e.items
+
+-- the names of an element and of all elements inside it
+unfoldable pub names_of : Element → List (List ℕ)
+names_of = fold-Element (List (List ℕ)) (List (List ℕ)) names_in_item names_in_element
+
+-- the names of an element's proper descendants; as a set, what an index keeps for the element
+abbrev pub tag_set : Element → List (List ℕ)
+tag_set e = flat_map names_of (children e.items)

@@ -1,0 +1,41 @@
+-- The lines of a document or a view, as they are written: this project's profile of the ESIS line form.
+use Rattle.std.specs.Prelude.{ℕ, Option, Some, None, List, [], ◌∷◌, ◌++◌, map}
+use Rattle.acl_model.specs.Ascii.{line_feed, left_parenthesis, right_parenthesis, hyphen, capital_a}
+use Rattle.acl_model.specs.declared.document.Doc.{Doc}
+use Rattle.acl_model.specs.declared.document.Item.{Item}
+use Rattle.acl_model.specs.declared.document.Element.{Element}
+use Rattle.acl_model.specs.declared.document.Item.TheOpen.{Item-F, Element-F}
+use Rattle.acl_model.specs.declared.document.Item.TheFolds.{fold-Item, fold-Element}
+
+-- the parts, one after another
+abbrev pub joined : List (List ℕ) → List ℕ
+joined [] = []
+joined (part ∷ parts) = part ++ joined parts
+
+-- a line: the byte that tells its kind, its argument, a line feed
+abbrev pub line : ℕ → List ℕ → List ℕ
+line kind argument = kind ∷ (argument ++ (line_feed ∷ []))
+
+-- A text is one line. An element stands as its own lines.
+abbrev pub item_lines : Item-F (List ℕ) (List ℕ) → List ℕ
+item_lines (Item-F.Text bytes) = line hyphen bytes
+item_lines (Item-F.Child lines) = lines
+
+-- An element is its attributes, its start, its items in order, and its end.
+abbrev pub element_lines : Element-F (List ℕ) (List ℕ) → List ℕ
+element_lines e = joined (map (line capital_a) e.attributes) ++ (line left_parenthesis e.name ++ (joined e.items ++ line right_parenthesis e.name))
+
+unfoldable pub element_text : Element → List ℕ
+element_text = fold-Element (List ℕ) (List ℕ) item_lines element_lines
+
+unfoldable pub item_text : Item → List ℕ
+item_text = fold-Item (List ℕ) (List ℕ) item_lines element_lines
+
+-- the text of a document
+abbrev pub text : Doc → List ℕ
+text d = element_text d.root
+
+-- The text of nothing is empty.
+abbrev pub text_of_view : Option Doc → List ℕ
+text_of_view None = []
+text_of_view (Some d) = text d

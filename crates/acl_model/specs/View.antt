@@ -1,0 +1,102 @@
+-- The authorised view: the document with each element as its sign says, and what `view` and `preview` write of it.
+use Rattle.std.specs.Prelude.{ℕ, ◌+◌, Option, Some, None, Bool, true, false, ◌||◌, List, [], ◌∷◌}
+use Rattle.std.specs.Option.{option_and_then}
+use Rattle.acl_model.specs.Ascii.{hyphen}
+use Rattle.acl_model.specs.Text.{text_of_view}
+use Rattle.acl_model.specs.Decide.{sign}
+use Rattle.acl_model.specs.declared.document.Doc.{Doc}
+use Rattle.acl_model.specs.declared.document.Item.{Item}
+use Rattle.acl_model.specs.declared.document.Element.{Element}
+use Rattle.acl_model.specs.declared.document.Item.TheVariants.{Text, Child}
+use Rattle.acl_model.specs.declared.document.Item.TheOpen.{Item-F, Element-F}
+use Rattle.acl_model.specs.declared.document.Item.TheFolds.{fold-Item, fold-Element}
+use Rattle.acl_model.specs.declared.path.Path.{Path}
+use Rattle.acl_model.specs.declared.rule.Rule.{Rule}
+use Rattle.acl_model.specs.declared.rule.Sign.{Sign}
+use Rattle.acl_model.specs.declared.rule.Sign.TheVariants.{Grant, Deny}
+
+-- the signs of an element and of all places inside it, which are counted from the element on
+abbrev pub Signs : Type 0
+Signs = List ℕ → Sign
+
+-- the signs in its k-th child
+abbrev pub in_child : Signs → ℕ → Signs
+in_child signs k place = signs (k ∷ place)
+
+-- What an item gives: a text itself; an element whether a place in it is granted, and its view, by its signs.
+pub data Seen : Type 0 where
+  words : List ℕ → Seen
+  inner : (Signs → Bool) → (Signs → Option Element) → Seen
+
+pub record SeenElement : Type 0 where
+  pub has_grant : Signs → Bool
+  pub view : Signs → Option Element
+
+abbrev pub seen_item : Item-F Seen SeenElement → Seen
+seen_item (Item-F.Text bytes) = words bytes
+seen_item (Item-F.Child e) = inner e.has_grant e.view
+
+abbrev pub is_grant : Sign → Bool
+is_grant Grant = true
+is_grant Deny = false
+
+-- a place in one of the items is granted; k is the number of the next element child
+abbrev pub grant_within : List Seen → Signs → ℕ → Bool
+grant_within [] signs k = false
+grant_within (words bytes ∷ items) signs k = grant_within items signs k
+grant_within (inner has_grant view ∷ items) signs k = has_grant (in_child signs k) || grant_within items signs (k + 1)
+
+abbrev pub with_child : Option Element → List Item → List Item
+with_child None items = items
+with_child (Some e) items = Child e ∷ items
+
+abbrev pub with_text : Sign → List ℕ → List Item → List Item
+with_text Grant bytes items = Text bytes ∷ items
+with_text Deny bytes items = items
+
+-- the items of the view of an element of this sign: texts where it is granted, and the views of the children
+abbrev pub views : Sign → List Seen → Signs → ℕ → List Item
+views own [] signs k = []
+views own (words bytes ∷ items) signs k = with_text own bytes (views own items signs k)
+views own (inner has_grant view ∷ items) signs k = with_child (view (in_child signs k)) (views own items signs (k + 1))
+
+-- A granted element keeps its name, attributes and texts. A denied one with a granted descendant is a dummy, which has
+-- the name '-' and neither attributes nor texts. Every other element is absent.
+abbrev pub shown : Sign → Bool → List ℕ → List (List ℕ) → List Item → Option Element
+shown Grant granted_inside name attributes items = Some (record { name = name; attributes = attributes; items = items })
+shown Deny true name attributes items = Some (record { name = hyphen ∷ []; attributes = []; items = items })
+shown Deny false name attributes items = None
+
+abbrev pub seen_element : Element-F Seen SeenElement → SeenElement
+seen_element e = record {
+  has_grant = λ signs. is_grant (signs []) || grant_within e.items signs 1;
+  view = λ signs. shown (signs []) (grant_within e.items signs 1) e.name e.attributes (views (signs []) e.items signs 1);
+}
+
+unfoldable pub seen : Element → SeenElement
+seen = fold-Element Seen SeenElement seen_item seen_element
+
+unfoldable pub seen_of_item : Item → Seen
+seen_of_item = fold-Item Seen SeenElement seen_item seen_element
+
+-- the document of an element, where it isn't absent
+abbrev pub doc_of : Option Element → Option Doc
+doc_of None = None
+doc_of (Some e) = Some (record { root = e })
+
+-- The authorised view of a document, from the root. If the root is absent, it is nothing.
+unfoldable pub view : Doc → List Rule → Option Doc
+view d rules = doc_of ((seen d.root).view (sign d rules))
+
+-- a rule that grants what a path selects
+abbrev pub granting : Path → Rule
+granting path = record { id = []; sign = Grant; path = path }
+
+-- A query is a second closed policy, on the view.
+abbrev pub answer : Doc → List Rule → Option Path → Option Doc
+answer d rules None = view d rules
+answer d rules (Some query) = option_and_then (λ v. view v (granting query ∷ [])) (view d rules)
+
+-- what is written
+abbrev pub out : Doc → List Rule → Option Path → List ℕ
+out d rules query = text_of_view (answer d rules query)

@@ -1,0 +1,98 @@
+//! A `Vec` that contracts see as the list of its elements, and the three kinds of it that have names.
+
+ghost use Rattle.std.specs.Prelude.{◌≡◌, [], ◌∷◌, ◌++◌, length, ◌==◌, IfOk, OnOk, OnErr};
+
+use std::alloc::{AllocError, Global};
+use std::marker::Model;
+
+/// A list in one piece of memory. Contracts see its elements alone, and not where they lie.
+#[derive(Debug, Drop)]
+pub struct Sequence<T> {
+    elements: Vec<T>,
+}
+
+/// Any bytes: a text, a raw attribute, a rule's id.
+pub type Bytes = Sequence<u8>;
+
+/// The name of an element or an attribute, as it stands in a document.
+pub type Name = Sequence<u8>;
+
+/// Where an element stands: from the root down, its number among the element children of its parent, from 1.
+/// The place of the root is empty.
+pub type Place = Sequence<u32>;
+
+impl<T> Model for Sequence<T> {
+    ghost use Rattle.std.specs.Prelude.{List};
+    ghost use Rattle.std.specs.Coded.{coded_list};
+
+    ghost Value = { List T };
+
+    ghost coded = { coded_list T.code };
+
+    ghost view = { λ s. s.elements.items };
+}
+
+impl<T> Sequence<T> {
+    /// The empty list, which takes no memory.
+    pub fn new(alloc: Global) -> Sequence<T>
+        ensures { result ≡ [] }
+    {
+        Sequence {
+            elements: Vec::new(alloc),
+        }
+    }
+
+    /// The elements of a `Vec`, in the memory where they lie.
+    pub fn from_vec(elements: Vec<T>) -> Sequence<T>
+        ensures { result ≡ elements.items }
+    {
+        Sequence { elements }
+    }
+
+    /// The `Vec` again, in the same memory.
+    pub fn into_vec(self) -> Vec<T>
+        ensures { result.items ≡ self }
+    {
+        let Sequence { elements } = self;
+        elements
+    }
+
+    pub fn as_slice(&self) -> &[T]
+        ensures { result.now ≡ self.now }
+    {
+        self.elements.as_slice()
+    }
+
+    pub fn len(&self) -> usize
+        ensures { result ≡ length self.now }
+    {
+        self.elements.len()
+    }
+
+    pub fn is_empty(&self) -> bool
+        ensures { result ≡ (length self.now == 0) }
+    {
+        self.elements.is_empty()
+    }
+}
+
+impl<T: Drop> Sequence<T> {
+    /// Adds an element at the end.
+    pub fn push(&mut self, element: T) -> Result<(), AllocError>
+        ensures added { OnOk result (self.new ≡ self.old ++ element ∷ []) }
+        ensures kept { OnErr result (self.new ≡ self.old) }
+    {
+        self.elements.push(element)?;
+        Ok(())
+    }
+}
+
+impl<T: Copy> Sequence<T> {
+    /// A copy of the elements.
+    pub fn from_slice(alloc: Global, elements: &[T]) -> Result<Sequence<T>, AllocError>
+        ensures { IfOk result (λ s. s ≡ elements.now) }
+    {
+        let elements = Vec::from_slice(alloc, elements)?;
+        Ok(Sequence { elements })
+    }
+}
