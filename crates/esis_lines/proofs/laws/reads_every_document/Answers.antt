@@ -1,0 +1,5 @@
+use Rattle.esis_lines.proofs.Passing.{read_document}
+use Rattle.esis_lines.proofs.laws.reads_every_document.Goals as goal
+
+pub returns : goal.returns
+returns c = read_document

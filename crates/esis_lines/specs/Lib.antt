@@ -1,0 +1,4 @@
+pub mod Answers
+pub mod Input
+pub mod Reading
+pub mod Spoken

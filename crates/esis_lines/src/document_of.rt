@@ -1,0 +1,29 @@
+//! From bytes to a document: a line at a time goes from the front of the bytes into the machine.
+
+ghost use Rattle.std.specs.Prelude.{◌≡◌};
+ghost use Rattle.esis_lines.specs.Reading.{read_doc_of};
+ghost use Rattle.esis_lines.specs.Answers.{ButForMemory};
+
+use crate::doc_fault::DocFault;
+use crate::line::classify;
+use crate::next_line::next_line;
+use crate::reader::Reader;
+use acl_model::Doc;
+use std::alloc::Global;
+
+/// Reads the whole bytes. No byte is looked at again once its line was taken.
+pub fn document_of(alloc: Global, bytes: &[u8]) -> Result<Doc, DocFault>
+    ensures { ButForMemory result (read_doc_of bytes.now) }
+{
+    let mut reader = Reader::new(alloc);
+    let mut rest = bytes;
+    while !rest.is_empty() {
+        let (line, after) = next_line(rest);
+        let Some(next) = reader.take(alloc, classify(line))? else {
+            return Err(DocFault::BadLine { line: 0 });
+        };
+        reader = next;
+        rest = after;
+    }
+    reader.finish().ok_or(DocFault::BadLine { line: 0 })
+}

@@ -1,0 +1,71 @@
+//! Reads a source to its end into memory, up to a limit. The bytes taken and the bytes to come are
+//! always the bytes that were to come at the start.
+ghost use Rattle.std.specs.Prelude.{◌≡◌, ◌≤◌, length, IfOk, OnOk, IfErr, IsErrOf};
+ghost use Rattle.std.specs.Io.KnownBytes.{Consumes, IsAtEnd};
+ghost use Rattle.acl_outside.specs.Outside.{Rose, NotFallen};
+ghost use Rattle.esis_lines.specs.Input.{TookTooMany};
+
+use acl_model::Bytes;
+use acl_outside::{NoMemory, Source};
+use std::alloc::{AllocError, Global};
+
+/// Why a source was not read to its end.
+#[derive(Clone, Copy, Debug, PartialEq, Eq)]
+pub enum ReadAllFault {
+    /// The source gave more bytes than this limit. One more than the limit was taken.
+    TooLong { limit: u32 },
+    /// The source failed.
+    Failed,
+    NoMemory,
+}
+
+impl From<AllocError> for ReadAllFault {
+    ghost use Rattle.esis_lines.specs.declared.input.ReadAllFault.TheVariants.{NoMemory};
+    ghost use Rattle.std.specs.Prelude.{◌≡◌};
+
+    ghost from_gives = { λ _ fault. fault ≡ NoMemory };
+
+    fn from(_: AllocError) -> Self {
+        ReadAllFault::NoMemory
+    }
+}
+
+impl From<acl_outside::Failed> for ReadAllFault {
+    ghost use Rattle.esis_lines.specs.declared.input.ReadAllFault.TheVariants.{Failed};
+    ghost use Rattle.std.specs.Prelude.{◌≡◌};
+
+    ghost from_gives = { λ _ fault. fault ≡ Failed };
+
+    fn from(_: acl_outside::Failed) -> Self {
+        ReadAllFault::Failed
+    }
+}
+
+// The most bytes that are asked for at once.
+const CHUNK: usize = 8192;
+
+/// All bytes of a source, which are at most `limit`. Where there are more, one more than the limit is
+/// taken from the source, and no further read is made.
+pub fn read_all<Q: Source>(alloc: Global, source: &mut Q, limit: u32) -> Result<Bytes, ReadAllFault>
+    ensures whole { IfOk result (λ bytes. Consumes (Q.left source.old) (Q.left source.new) bytes) }
+    ensures end { OnOk result (IsAtEnd (Q.left source.new)) }
+    ensures within { IfOk result (λ bytes. length bytes ≤ limit) }
+    ensures too_long { IfErr result (λ fault.
+        TookTooMany fault limit (Q.left source.old) (Q.left source.new)) }
+
+    ensures cause { IsErrOf result ReadAllFault.Failed → Rose (Q.faults source.old) (Q.faults source.new) }
+    ensures never_falls { NotFallen (Q.faults source.old) (Q.faults source.new) }
+{
+    let most = limit as usize + 1;
+    let mut bytes = Vec::new(alloc);
+    let mut chunk = [0u8; CHUNK];
+    'reads: while bytes.len() < most {
+        let room = CHUNK.min(most - bytes.len());
+        let count = source.read(&mut chunk[..room])?;
+        if count == 0 {
+            return Ok(Bytes::from_vec(bytes));
+        }
+        bytes.extend_from_slice(&chunk[..count])?;
+    }
+    Err(ReadAllFault::TooLong { limit })
+}

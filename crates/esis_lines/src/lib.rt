@@ -1,0 +1,26 @@
+//! Documents as lines: this project's profile of the ESIS line form of `nsgmls`. A source is read whole,
+//! its bytes are read as a document, and a document is written line by line.
+#![tactic(auto)]
+
+mod doc_fault;
+mod document_of;
+mod input;
+mod laws;
+mod line;
+mod name;
+mod next_line;
+mod open_element;
+mod output;
+mod reader;
+mod reading;
+
+pub use doc_fault::DocFault;
+pub use input::{ReadAllFault, read_all};
+pub use laws::{a_text_is_of_one_document, reads_documents_alone, reads_every_document};
+pub use output::write_doc;
+pub use reading::{MOST_DOCUMENT_BYTES, read_doc};
+
+#[cfg(test)]
+mod reading_tests;
+#[cfg(test)]
+mod tests;

@@ -1,0 +1,69 @@
+//! An element that has started and not ended.
+
+ghost use Rattle.std.specs.Prelude.{◌≡◌, ◌++◌, ◌∷◌, [], IfOk, OnOk};
+ghost use Rattle.acl_model.specs.declared.document.Element.{Element};
+ghost use Rattle.esis_lines.specs.Reading.{OpenElement, closed, with_item};
+
+use acl_model::{Element, Item, Name, Sequence};
+use sqlite_items::Items;
+use std::alloc::{AllocError, Global};
+use std::marker::Model;
+
+/// The name of an open element and what came inside it so far.
+#[derive(Drop)]
+pub struct OpenElement {
+    name: Name,
+    items: Vec<Item>,
+}
+
+impl Model for OpenElement {
+    ghost use Rattle.esis_lines.specs.Reading.{OpenElement as Seen};
+    ghost use Rattle.std.specs.Coded.{codes};
+    ghost use Rattle.acl_model.specs.contracts.document.Item as item;
+
+    ghost Value = { Seen };
+
+    ghost coded = { Prim.hlevel (codes, item.the_row.coded) };
+
+    ghost view = { λ o. record { name = o.name; items = o.items.items } };
+}
+
+impl OpenElement {
+    /// An element that starts here.
+    pub fn new(alloc: Global, name: &[u8]) -> Result<OpenElement, AllocError>
+        ensures { IfOk result (λ o. o ≡ record { name = name.now; items = [] }) }
+    {
+        let name = Sequence::from_slice(alloc, name)?;
+        Ok(OpenElement {
+            name,
+            items: Vec::new(alloc),
+        })
+    }
+
+    /// Its name.
+    pub fn name(&self) -> &[u8]
+        ensures { result.now ≡ self.now.name }
+    {
+        self.name.as_slice()
+    }
+
+    /// Takes one more item.
+    pub fn push(&mut self, item: Item) -> Result<(), AllocError>
+        ensures { OnOk result (self.new ≡ with_item item self.old) }
+    {
+        self.items.push(item)?;
+        Ok(())
+    }
+
+    /// The whole element.
+    pub fn close(self, alloc: Global) -> Element
+        ensures { result ≡ closed self }
+    {
+        let OpenElement { name, items } = self;
+        Element {
+            name,
+            attributes: Sequence::new(alloc),
+            items: Items::from_vec(items),
+        }
+    }
+}
