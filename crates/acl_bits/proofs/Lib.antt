@@ -1,0 +1,4 @@
+pub mod BitStrings
+pub mod Members
+pub mod Windows
+pub mod Words

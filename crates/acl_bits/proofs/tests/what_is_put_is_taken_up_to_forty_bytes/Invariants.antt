@@ -1,0 +1,6 @@
+-- The bits so far and the room left are 320 at most.
+use Rattle.std.proofs.Common.{◌+◌, ◌≤◌, length}
+use Rattle.acl_bits.proofs.tests.what_is_put_is_taken_up_to_forty_bytes.Given as goal
+
+abbrev pub invariant-loop-width : goal.invariant-loop-width
+invariant-loop-width g l = length l.out + l.room ≤ 320

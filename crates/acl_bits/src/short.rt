@@ -1,0 +1,5 @@
+//! The error of a string of bits that is too short.
+
+/// Fewer bits are left than were asked for.
+#[derive(Debug, Drop, Clone, Copy, PartialEq, Eq)]
+pub struct Short;
