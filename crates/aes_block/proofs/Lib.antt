@@ -1,0 +1,11 @@
+pub mod Bytes
+pub mod FieldLaws
+pub mod Columns
+pub mod States
+pub mod Inverse
+pub mod Substitution
+pub mod TableEntries
+pub mod WordLemmas
+pub mod ScheduleLemmas
+pub mod Vectors
+pub mod KeyLemmas

@@ -1,0 +1,16 @@
+use Rattle.std.proofs.Common.{ℕ, ◌<◌, [], ◌∷◌, get_or, ◌∙◌, arith, subst, sym}
+use Rattle.aes_block.specs.Aes.{sub_byte}
+use Rattle.aes_block.specs.declared.tables.TheConstants.{SUB_BYTE}
+use Rattle.aes_block.proofs.Substitution.{sub_byte-lt}
+use Rattle.aes_block.proofs.TableEntries.{sub_byte_at}
+use Rattle.aes_block.proofs.WordLemmas.{word_bytes_of}
+use Rattle.aes_block.proofs.rounds.substituted.Goals as goal
+
+pub returns : goal.returns
+returns c =
+    let lt : (x : ℕ) → x < 256 → get_or SUB_BYTE x 0 < 256 = λ x h. subst (λ (y : ℕ). y < 256) (sym (sub_byte_at x h)) (sub_byte-lt x h) in
+    word_bytes_of c.from_be_bytes.result (get_or SUB_BYTE c.first_byte.result 0) (get_or SUB_BYTE c.second_byte.result 0)
+    (get_or SUB_BYTE c.third_byte.result 0) (get_or SUB_BYTE c.fourth_byte.result 0)
+    (lt c.first_byte.result (omega arith)) (lt c.second_byte.result (omega arith)) (lt c.third_byte.result (omega arith)) (lt c.fourth_byte.result (omega arith)) c.from_be_bytes.ensures
+    ∙ (λ i. sub_byte_at c.first_byte.result (omega arith) i ∷ sub_byte_at c.second_byte.result (omega arith) i ∷ sub_byte_at c.third_byte.result (omega arith) i ∷ sub_byte_at c.fourth_byte.result (omega arith) i ∷ [])
+    ∙ (λ i. sub_byte (c.first_byte.ensures i) ∷ sub_byte (c.second_byte.ensures i) ∷ sub_byte (c.third_byte.ensures i) ∷ sub_byte (c.fourth_byte.ensures i) ∷ [])
