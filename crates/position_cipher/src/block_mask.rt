@@ -1,0 +1,23 @@
+//! The mask of a block: its number over the whole stream, so that no two blocks have the same one.
+ghost use Rattle.std.specs.Prelude.{◌≡◌, length};
+ghost use Rattle.aes_block.specs.Aes.{xor_bytes};
+ghost use Rattle.position_cipher.specs.Masked.{block_mask};
+
+/// The number of a block in 16 bytes, the highest first.
+pub fn mask(number: u64) -> [u8; 16]
+    ensures { result ≡ block_mask number }
+{
+    u128::from(number).to_be_bytes()
+}
+
+// The sum of a block and the mask of its number.
+pub(crate) fn masked(block: &[u8], number: u64) -> [u8; 16]
+    requires { length block.now ≡ 16 }
+    ensures { result ≡ xor_bytes block.now (block_mask number) }
+{
+    let mut sum = mask(number);
+    'bytes: for i in 0..16 {
+        sum[i] = block[i] ^ sum[i];
+    }
+    sum
+}

@@ -1,0 +1,67 @@
+//! A fragment is 16 blocks of 16 bytes, whose numbers go on from those of the fragments before it.
+ghost use Rattle.std.specs.Prelude.{◌≡◌, ◌+◌, ◌*◌, ◌<◌, length};
+ghost use Rattle.position_cipher.specs.Masked.{locked, masked_block, unlocked, unmasked_block};
+
+use crate::block_mask::masked;
+use aes_block::Key128;
+
+const BLOCKS: usize = 16;
+
+const BLOCK_LEN: usize = 16;
+
+// The number of block `k` of a fragment over the whole stream.
+fn number_of(index: u32, k: usize) -> u64
+    requires { k < BLOCKS }
+    ensures { result ≡ 16 * index + k }
+{
+    BLOCKS as u64 * u64::from(index) + k as u64
+}
+
+// Enciphers the block of a number.
+fn lock_block(key: &Key128, number: u64, block: &mut [u8])
+    requires { length block.old ≡ 16 }
+    ensures locked { block.new ≡ masked_block key.now number block.old }
+    ensures undone { unmasked_block key.now number block.new ≡ block.old }
+{
+    block.copy_from_slice(&key.encrypt(masked(block, number)));
+}
+
+// Deciphers the block of a number.
+fn unlock_block(key: &Key128, number: u64, block: &mut [u8])
+    requires { length block.old ≡ 16 }
+    ensures unlocked { block.new ≡ unmasked_block key.now number block.old }
+    ensures undone { masked_block key.now number block.new ≡ block.old }
+{
+    let mut cipher = [0; BLOCK_LEN];
+    cipher.copy_from_slice(block);
+    block.copy_from_slice(&key.decrypt(cipher));
+    block.copy_from_slice(&masked(block, number));
+}
+
+/// Enciphers the fragment of an index, from 0, in place.
+pub fn lock_fragment(key: &Key128, index: u32, bytes: &mut [u8; 256])
+    ensures locked { bytes.new ≡ locked key.now index bytes.old }
+    ensures undone { unlocked key.now index bytes.new ≡ bytes.old }
+{
+    'each: for k in 0..BLOCKS {
+        lock_block(
+            key,
+            number_of(index, k),
+            &mut bytes[BLOCK_LEN * k..BLOCK_LEN * (k + 1)],
+        );
+    }
+}
+
+/// Deciphers the fragment of an index, from 0, in place.
+pub fn unlock_fragment(key: &Key128, index: u32, bytes: &mut [u8; 256])
+    ensures unlocked { bytes.new ≡ unlocked key.now index bytes.old }
+    ensures undone { locked key.now index bytes.new ≡ bytes.old }
+{
+    'each: for k in 0..BLOCKS {
+        unlock_block(
+            key,
+            number_of(index, k),
+            &mut bytes[BLOCK_LEN * k..BLOCK_LEN * (k + 1)],
+        );
+    }
+}
