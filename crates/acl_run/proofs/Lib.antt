@@ -1,0 +1,10 @@
+pub mod BodyLaws
+pub mod DocumentLaws
+pub mod LimitLaws
+pub mod LineLaws
+pub mod Lists
+pub mod PathLaws
+pub mod RuleLaws
+pub mod ViewLaws
+pub mod WrittenBody
+pub mod WrittenTexts

@@ -1,0 +1,10 @@
+pub mod Body
+pub mod BodyText
+pub mod ChildPath
+pub mod Lines
+pub mod Live
+pub mod Outcome
+pub mod Pieces
+pub mod Preview
+pub mod Ways
+pub mod Words
