@@ -4,7 +4,7 @@ use Rattle.std.specs.Int.{bit_at}
 use Rattle.std.proofs.lemmas.Nat.{mod-pow-add}
 use Rattle.std.proofs.lemmas.Bool.{cases_lt}
 use Rattle.std.proofs.lemmas.Nat.Bits.{bit_at-lt, bit_at_lowest, bit_at_cat_high}
-use Rattle.acl_bits.specs.Bits.{has_bit, bits_of, digit, number_after, number_of, bits_of_bytes, filled, first_bytes, bytes_of, bit_in, HoldBits}
+use Rattle.acl_bits.specs.Bits.{has_bit, bits_of, digit, number_after, number_of, bits_of_bytes, filled_bits, first_bytes, bytes_of, bit_in, HoldBits}
 use Rattle.std.proofs.lemmas.List.{take_at, drop_at, take-append-drop, length-replicate, get_or-take, get_or_past, length-take}
 use Rattle.std.proofs.Math.Seq.{drop-nil, drop-append-add}
 
@@ -220,17 +220,17 @@ first_bytes-bits (suc n) bits e =
     ∙ ap (λ xs. xs ++ bits_of_bytes (first_bytes n (drop 8 bits))) (bits_of-number_of (take 8 bits))
     ∙ ap (λ xs. take 8 bits ++ xs) (first_bytes-bits n (drop 8 bits) rest) ∙ take-append-drop 8 bits
 
-length-filled : (bits : List Bool) → length (filled bits) ≡ length bits + (8 - length bits % 8) % 8
-length-filled bits =
+length-filled_bits : (bits : List Bool) → length (filled_bits bits) ≡ length bits + (8 - length bits % 8) % 8
+length-filled_bits bits =
     length-append bits (replicate ((8 - length bits % 8) % 8) false)
     ∙ ap (λ k. length bits + k) (length-replicate ((8 - length bits % 8) % 8) false)
 
-pub bits_of_bytes-bytes_of : (bits : List Bool) → bits_of_bytes (bytes_of bits) ≡ filled bits
+pub bits_of_bytes-bytes_of : (bits : List Bool) → bits_of_bytes (bytes_of bits) ≡ filled_bits bits
 unfolding bytes_of
 bits_of_bytes-bytes_of bits =
-    let long = length-filled bits in
-    let whole : length (filled bits) ≡ 8 * (length (filled bits) / 8) = omega (arith, long) in
-    first_bytes-bits (length (filled bits) / 8) (filled bits) whole
+    let long = length-filled_bits bits in
+    let whole : length (filled_bits bits) ≡ 8 * (length (filled_bits bits) / 8) = omega (arith, long) in
+    first_bytes-bits (length (filled_bits bits) / 8) (filled_bits bits) whole
 
 first_bytes-bytes : (bytes : List ℕ) → ((k : ℕ) → get_or bytes k 0 < 256) → first_bytes (length bytes) (bits_of_bytes bytes) ≡ bytes
 unfolding bits_of_bytes first_bytes
@@ -265,14 +265,14 @@ bytes_of-held bytes len h =
     let gap : (8 - length string % 8) % 8 ≡ 8 * c - len = omega (arith, string_long) in
     let parts : 8 * c ≡ len + (8 * c - len) = omega arith in
     let start : 0 + len ≡ len = omega arith in
-    let whole : bits_of_bytes head ≡ filled string =
+    let whole : bits_of_bytes head ≡ filled_bits string =
     bits_of_bytes-answers head ∙ ap (λ k. answers (bit_in head) 0 (8 * k)) long
     ∙ answers-same (bit_in head) (bit_in bytes) 0 (8 * c) (λ m l u. ap (λ b. has_bit b (7 - m % 8)) (get_or-take c bytes (m / 8) 0 (omega arith)))
     ∙ ap (answers (bit_in bytes) 0) parts ∙ answers-split (bit_in bytes) 0 len (8 * c - len)
     ∙ ap (λ xs. xs ++ answers (bit_in bytes) (0 + len) (8 * c - len)) (sym view)
     ∙ ap (λ xs. string ++ xs) (ap (λ a. answers (bit_in bytes) a (8 * c - len)) start ∙ answers-false (bit_in bytes) len (8 * c - len) h.clear)
     ∙ ap (λ k. string ++ replicate k false) (sym gap) in
-    let count : length (filled string) / 8 ≡ length head =
-    let all : length (filled string) ≡ 8 * length head = ap length (sym whole) ∙ length-bits_of_bytes head in omega (arith, all) in
-    ap (λ xs. first_bytes (length (filled string) / 8) xs) (sym whole) ∙ ap (λ k. first_bytes k (bits_of_bytes head)) count
+    let count : length (filled_bits string) / 8 ≡ length head =
+    let all : length (filled_bits string) ≡ 8 * length head = ap length (sym whole) ∙ length-bits_of_bytes head in omega (arith, all) in
+    ap (λ xs. first_bytes (length (filled_bits string) / 8) xs) (sym whole) ∙ ap (λ k. first_bytes k (bits_of_bytes head)) count
     ∙ first_bytes-bytes head (λ k. fits_taken bytes c k h.fit)

@@ -11,13 +11,13 @@ use Rattle.std.proofs.lemmas.List.Kept.{IsStrictlyIncreasing-filter}
 use Rattle.std.proofs.lemmas.Option.{slice_get_within, slice_get-get_or, get_or_from_slice_get}
 use Rattle.std.specs.List.Sorted.{IsStrictlyIncreasing}
 use Rattle.acl_bits.specs.Row.{row_of, IsRow}
-use Rattle.acl_bits.specs.RowLaws.{below}
+use Rattle.acl_bits.specs.RowLaws.{numbers_below}
 
 -- ---- how many, and which comes at a place
 
-pub length-below : (p : ℕ → Bool) (n : ℕ) → length (below p (suc n)) ≡ length (below p n) + cond (p n) 1 0
-unfolding below
-length-below p n = length-append (below p n) (cond (p n) (n ∷ []) []) ∙ ap (λ k. length (below p n) + k) (one (p n))
+pub length-numbers_below : (p : ℕ → Bool) (n : ℕ) → length (numbers_below p (suc n)) ≡ length (numbers_below p n) + cond (p n) 1 0
+unfolding numbers_below
+length-numbers_below p n = length-append (numbers_below p n) (cond (p n) (n ∷ []) []) ∙ ap (λ k. length (numbers_below p n) + k) (one (p n))
   where
     one : (b : Bool) → length (cond b (n ∷ []) []) ≡ cond b 1 0
     one true = refl
@@ -33,30 +33,30 @@ count_by_one true k n = grind (arith, nat_tests)
 count_by_one false k n = grind (arith, nat_tests)
 
 -- all members are below a bound from n on
-pub count_by-below_all : (p : ℕ → Bool) (n k : ℕ) → n ≤ k → count_by (λ m. ltb m k) (below p n) ≡ length (below p n)
-unfolding below
-count_by-below_all p zero k h = refl
-count_by-below_all p (suc n) k h =
-    let e = count_by-append (λ m. ltb m k) (below p n) (cond (p n) (n ∷ []) []) in
+pub count_by-numbers_below_all : (p : ℕ → Bool) (n k : ℕ) → n ≤ k → count_by (λ m. ltb m k) (numbers_below p n) ≡ length (numbers_below p n)
+unfolding numbers_below
+count_by-numbers_below_all p zero k h = refl
+count_by-numbers_below_all p (suc n) k h =
+    let e = count_by-append (λ m. ltb m k) (numbers_below p n) (cond (p n) (n ∷ []) []) in
     let one = count_by_one (p n) k n in
-    let more = length-below p n in
-    let rest = count_by-below_all p n k (omega arith) in
+    let more = length-numbers_below p n in
+    let rest = count_by-numbers_below_all p n k (omega arith) in
     e ∙ grind (arith, nat_tests, one, more, rest)
 
 -- the members below k are those of the numbers below k
-pub count_by-below : (p : ℕ → Bool) (n k : ℕ) → k ≤ n → count_by (λ m. ltb m k) (below p n) ≡ length (below p k)
-unfolding below
-count_by-below p zero k h =
+pub count_by-numbers_below : (p : ℕ → Bool) (n k : ℕ) → k ≤ n → count_by (λ m. ltb m k) (numbers_below p n) ≡ length (numbers_below p k)
+unfolding numbers_below
+count_by-numbers_below p zero k h =
     let same : zero ≡ k = omega arith in
-    ap (λ x. length (below p x)) same
-count_by-below p (suc n) k h = elim (cases_lt n k) [
+    ap (λ x. length (numbers_below p x)) same
+count_by-numbers_below p (suc n) k h = elim (cases_lt n k) [
   | inl past ↦
       let same : suc n ≡ k = omega arith in
-      subst (λ (x : ℕ). count_by (λ m. ltb m x) (below p (suc n)) ≡ length (below p x)) same (count_by-below_all p (suc n) (suc n) (omega arith))
+      subst (λ (x : ℕ). count_by (λ m. ltb m x) (numbers_below p (suc n)) ≡ length (numbers_below p x)) same (count_by-numbers_below_all p (suc n) (suc n) (omega arith))
   | inr within ↦
-      let e = count_by-append (λ m. ltb m k) (below p n) (cond (p n) (n ∷ []) []) in
+      let e = count_by-append (λ m. ltb m k) (numbers_below p n) (cond (p n) (n ∷ []) []) in
       let one = count_by_one (p n) k n in
-      let rest = count_by-below p n k within in
+      let rest = count_by-numbers_below p n k within in
       e ∙ grind (arith, nat_tests, one, rest)
 ]
 
@@ -71,14 +71,14 @@ get_before xs ys i k e =
     slice_get-get_or (xs ++ ys) i 0 (simp length-append (omega arith))
     ∙ ap Some (get_or_append_left xs ys 0 i within ∙ get_or_from_slice_get xs i k 0 e)
 
-pub slice_get-below : (p : ℕ → Bool) (n k : ℕ) → k < n → p k ≡ true → slice_get (below p n) (length (below p k)) ≡ Some k
-unfolding below
-slice_get-below p zero k h e = absurd (omega arith)
-slice_get-below p (suc n) k h e = elim (cases_lt k n) [
-  | inl within ↦ get_before (below p n) (cond (p n) (n ∷ []) []) (length (below p k)) k (slice_get-below p n k within e)
+pub slice_get-numbers_below : (p : ℕ → Bool) (n k : ℕ) → k < n → p k ≡ true → slice_get (numbers_below p n) (length (numbers_below p k)) ≡ Some k
+unfolding numbers_below
+slice_get-numbers_below p zero k h e = absurd (omega arith)
+slice_get-numbers_below p (suc n) k h e = elim (cases_lt k n) [
+  | inl within ↦ get_before (numbers_below p n) (cond (p n) (n ∷ []) []) (length (numbers_below p k)) k (slice_get-numbers_below p n k within e)
   | inr past ↦ let same : k ≡ n = omega arith in
-      subst (λ (x : ℕ). slice_get (below p (suc x)) (length (below p k)) ≡ Some k) same
-      (ap (λ b. slice_get (below p k ++ cond b (k ∷ []) []) (length (below p k))) e ∙ get_at_end (below p k) k)
+      subst (λ (x : ℕ). slice_get (numbers_below p (suc x)) (length (numbers_below p k)) ≡ Some k) same
+      (ap (λ b. slice_get (numbers_below p k ++ cond b (k ∷ []) []) (length (numbers_below p k))) e ∙ get_at_end (numbers_below p k) k)
 ]
 
 -- ---- the list of a set rises, and is below 256

@@ -9,9 +9,9 @@ use Rattle.std.proofs.lemmas.List.Folds.{list_any-append}
 use Rattle.std.proofs.lemmas.Nat.{or_lt, and_le_l, and_mask, mod-pow-add, pow_pos}
 use Rattle.std.proofs.lemmas.Nat.Bits.{shr_and_one, bit_at_set_same, bit_at_set_other, bit_at-zero, bit_at-lt, bit_at_or, bit_at_and, bit_at-trailing_zeros, bit_at_ones, bit_at_ones_above}
 use Rattle.acl_bits.specs.Row.{row_of, is_member, is_set, members_of, AreWords, words_of}
-use Rattle.acl_bits.specs.RowLaws.{below, range_with_len-more, row_of-below, row_of-same, is_member-row_of, is_member-row_of_past}
+use Rattle.acl_bits.specs.RowLaws.{numbers_below, range_with_len-more, row_of-numbers_below, row_of-same, is_member-row_of, is_member-row_of_past}
 use Rattle.acl_bits.specs.RowWords.{is_set_at, words_of-members}
-use Rattle.acl_bits.proofs.Members.{length-below, count_by-below, count_by-below_all, slice_get-below}
+use Rattle.acl_bits.proofs.Members.{length-numbers_below, count_by-numbers_below, count_by-numbers_below_all, slice_get-numbers_below}
 use lib.Count.{ones_cat, ones-ones}
 use Rattle.std.specs.Cmp.Lexicographic.{pointwise, bytes_decides}
 use Rattle.std.specs.Bool.{one_answer}
@@ -41,17 +41,17 @@ zeros_at (suc (suc zero)) = refl
 zeros_at (suc (suc (suc zero))) = refl
 zeros_at (suc (suc (suc (suc k)))) = refl
 
-below_none : (n : ℕ) → below (λ _. false) n ≡ []
-unfolding below
-below_none zero = refl
-below_none (suc n) = ap (λ xs. xs ++ []) (below_none n)
+numbers_below_none : (n : ℕ) → numbers_below (λ _. false) n ≡ []
+unfolding numbers_below
+numbers_below_none zero = refl
+numbers_below_none (suc n) = ap (λ xs. xs ++ []) (numbers_below_none n)
 
 pub members_of-zeros : members_of (0 ∷ 0 ∷ 0 ∷ 0 ∷ []) ≡ []
 unfolding is_set
 members_of-zeros =
     row_of-same (is_set (0 ∷ 0 ∷ 0 ∷ 0 ∷ [])) (λ _. false) (λ n h.
     ap (λ w. eqb (bit_at w (n % 64)) 1) (zeros_at (n / 64)) ∙ ap (λ b. eqb b 1) (bit_at-zero (n % 64)))
-    ∙ row_of-below (λ _. false) ∙ below_none 256
+    ∙ row_of-numbers_below (λ _. false) ∙ numbers_below_none 256
 
 -- ---- `put`
 
@@ -127,26 +127,26 @@ members_of-or new a b h =
 
 -- ---- `meets`
 
-list_any-below_at : (p q : ℕ → Bool) (n k : ℕ) → k < n → p k ≡ true → q k ≡ true → list_any q (below p n) ≡ true
-unfolding below
-list_any-below_at p q zero k h a b = absurd (omega arith)
-list_any-below_at p q (suc n) k h a b =
-    list_any-append q (below p n) (cond (p n) (n ∷ []) []) ∙ elim (cases_lt k n) [
-      | inl before ↦ or_left (list_any q (below p n)) (list_any q (cond (p n) (n ∷ []) [])) (list_any-below_at p q n k before a b)
+list_any-numbers_below_at : (p q : ℕ → Bool) (n k : ℕ) → k < n → p k ≡ true → q k ≡ true → list_any q (numbers_below p n) ≡ true
+unfolding numbers_below
+list_any-numbers_below_at p q zero k h a b = absurd (omega arith)
+list_any-numbers_below_at p q (suc n) k h a b =
+    list_any-append q (numbers_below p n) (cond (p n) (n ∷ []) []) ∙ elim (cases_lt k n) [
+      | inl before ↦ or_left (list_any q (numbers_below p n)) (list_any q (cond (p n) (n ∷ []) [])) (list_any-numbers_below_at p q n k before a b)
       | inr past ↦
           let here : k ≡ n = omega arith in
-          or_right (list_any q (below p n)) (list_any q (cond (p n) (n ∷ []) []))
+          or_right (list_any q (numbers_below p n)) (list_any q (cond (p n) (n ∷ []) []))
           (subst (λ (x : ℕ). list_any q (cond (p x) (x ∷ []) []) ≡ true) here
           (ap (λ c. list_any q (cond c (k ∷ []) [])) a ∙ or_left (q k) false b))
     ]
 
-list_any-below_none : (p q : ℕ → Bool) (n : ℕ) → ((k : ℕ) → k < n → p k ≡ true → q k ≡ false) → list_any q (below p n) ≡ false
-unfolding below
-list_any-below_none p q zero h = refl
-list_any-below_none p q (suc n) h =
-    list_any-append q (below p n) (cond (p n) (n ∷ []) [])
-    ∙ or_from (list_any q (below p n)) (list_any q (cond (p n) (n ∷ []) []))
-    (list_any-below_none p q n (λ k l. h k (omega arith))) (one (p n) refl)
+list_any-numbers_below_none : (p q : ℕ → Bool) (n : ℕ) → ((k : ℕ) → k < n → p k ≡ true → q k ≡ false) → list_any q (numbers_below p n) ≡ false
+unfolding numbers_below
+list_any-numbers_below_none p q zero h = refl
+list_any-numbers_below_none p q (suc n) h =
+    list_any-append q (numbers_below p n) (cond (p n) (n ∷ []) [])
+    ∙ or_from (list_any q (numbers_below p n)) (list_any q (cond (p n) (n ∷ []) []))
+    (list_any-numbers_below_none p q n (λ k l. h k (omega arith))) (one (p n) refl)
   where
     one : (b : Bool) → p n ≡ b → list_any q (cond b (n ∷ []) []) ≡ false
     one true e = or_from (q n) false (h n (omega arith) e) refl
@@ -168,12 +168,12 @@ meets_some a b i words h common =
     let place = trailing_zeros w64 both in
     let within : place < 64 = lowest.0 in
     let digits = both_digits (bit_at x place) (bit_at y place) (bit_at-lt x place) (bit_at-lt y place) (sym (bit_at_and x y place) ∙ lowest.1) in
-    let below_all : 64 * i + place < 256 = omega arith in
+    let numbers_below_all : 64 * i + place < 256 = omega arith in
     let first : is_set a (64 * i + place) ≡ true = is_set_at a i place within ∙ ap (λ d. eqb d 1) digits.0 in
     let second : is_set b (64 * i + place) ≡ true = is_set_at b i place within ∙ ap (λ d. eqb d 1) digits.1 in
-    ap (list_any (is_member (members_of b))) (row_of-below (is_set a))
-    ∙ list_any-below_at (is_set a) (is_member (members_of b)) 256 (64 * i + place) below_all first
-    (is_member-row_of (is_set b) (64 * i + place) below_all ∙ second)
+    ap (list_any (is_member (members_of b))) (row_of-numbers_below (is_set a))
+    ∙ list_any-numbers_below_at (is_set a) (is_member (members_of b)) 256 (64 * i + place) numbers_below_all first
+    (is_member-row_of (is_set b) (64 * i + place) numbers_below_all ∙ second)
 
 apart_digits : (x y : ℕ) → x < 2 → y < 2 → min x y ≡ 0 → eqb x 1 ≡ true → eqb y 1 ≡ false
 apart_digits x y h l e t = grind (arith, nat_tests)
@@ -182,8 +182,8 @@ pub meets_none : (a b : List ℕ) → ((i : ℕ) → i < 4 → bit_and (get_or a
     → list_any (is_member (members_of b)) (members_of a) ≡ false
 unfolding is_set
 meets_none a b none =
-    ap (list_any (is_member (members_of b))) (row_of-below (is_set a))
-    ∙ list_any-below_none (is_set a) (is_member (members_of b)) 256 (λ n l t.
+    ap (list_any (is_member (members_of b))) (row_of-numbers_below (is_set a))
+    ∙ list_any-numbers_below_none (is_set a) (is_member (members_of b)) 256 (λ n l t.
     is_member-row_of (is_set b) n l
     ∙ apart_digits (bit_at (get_or a (n / 64) 0) (n % 64)) (bit_at (get_or b (n / 64) 0) (n % 64))
     (bit_at-lt (get_or a (n / 64) 0) (n % 64)) (bit_at-lt (get_or b (n / 64) 0) (n % 64))
@@ -211,30 +211,30 @@ digit_as_number b h = grind (arith, nat_tests)
 
 -- the members among the first bits of word i
 pub length-word : (words : List ℕ) (i j : ℕ) → j ≤ 64
-    → length (below (is_set words) (64 * i + j)) ≡ length (below (is_set words) (64 * i)) + count_ones (get_or words i 0 % 2 ^ j)
+    → length (numbers_below (is_set words) (64 * i + j)) ≡ length (numbers_below (is_set words) (64 * i)) + count_ones (get_or words i 0 % 2 ^ j)
 length-word words i zero h =
     let w = get_or words i 0 in
     let same : 64 * i + 0 ≡ 64 * i = omega arith in
     let nothing : w % 2 ^ 0 ≡ 0 = omega arith in
-    ap (λ n. length (below (is_set words) n)) same
-    ∙ sym (ap (λ k. length (below (is_set words) (64 * i)) + k) (ap count_ones nothing ∙ ones-ones 0) ∙ add-zero (length (below (is_set words) (64 * i))))
+    ap (λ n. length (numbers_below (is_set words) n)) same
+    ∙ sym (ap (λ k. length (numbers_below (is_set words) (64 * i)) + k) (ap count_ones nothing ∙ ones-ones 0) ∙ add-zero (length (numbers_below (is_set words) (64 * i))))
 length-word words i (suc j) h =
     let w = get_or words i 0 in
     let next : 64 * i + suc j ≡ suc (64 * i + j) = omega arith in
-    let before = length (below (is_set words) (64 * i)) in
+    let before = length (numbers_below (is_set words) (64 * i)) in
     let step = count_ones-step w j in
     let rest = length-word words i j (omega arith) in
     let digit : cond (is_set words (64 * i + j)) 1 0 ≡ bit_at w j =
     ap (λ b. cond b 1 0) (is_set_at words i j (omega arith)) ∙ digit_as_number (bit_at w j) (bit_at-lt w j) in
-    let more = length-below (is_set words) (64 * i + j) in
-    ap (λ n. length (below (is_set words) n)) next ∙ omega (arith, step, rest, digit, more)
+    let more = length-numbers_below (is_set words) (64 * i + j) in
+    ap (λ n. length (numbers_below (is_set words) n)) next ∙ omega (arith, step, rest, digit, more)
 
-pub length-below_le : (p : ℕ → Bool) (n : ℕ) → length (below p n) ≤ n
-unfolding below
-length-below_le p zero = omega arith
-length-below_le p (suc n) =
-    let more = length-below p n in
-    let rest = length-below_le p n in
+pub length-numbers_below_le : (p : ℕ → Bool) (n : ℕ) → length (numbers_below p n) ≤ n
+unfolding numbers_below
+length-numbers_below_le p zero = omega arith
+length-numbers_below_le p (suc n) =
+    let more = length-numbers_below p n in
+    let rest = length-numbers_below_le p n in
     let one : cond (p n) 1 0 ≤ 1 = at_most_one (p n) in
     omega (arith, more, rest, one)
   where
@@ -243,59 +243,59 @@ length-below_le p (suc n) =
     at_most_one false = omega arith
 
 -- a whole word
-pub length-whole_word : (words : List ℕ) (i ones : ℕ) → get_or words i 0 < 2 ^ 64 → ones ≡ length (below (is_set words) (64 * i))
-    → ones + count_ones (get_or words i 0) ≡ length (below (is_set words) (64 * (i + 1)))
+pub length-whole_word : (words : List ℕ) (i ones : ℕ) → get_or words i 0 < 2 ^ 64 → ones ≡ length (numbers_below (is_set words) (64 * i))
+    → ones + count_ones (get_or words i 0) ≡ length (numbers_below (is_set words) (64 * (i + 1)))
 length-whole_word words i ones fits e =
     let whole : get_or words i 0 % 2 ^ 64 ≡ get_or words i 0 = omega (arith, fits) in
     let next : 64 * (i + 1) ≡ 64 * i + 64 = omega arith in
     let all = length-word words i 64 (omega arith) in
     let last : count_ones (get_or words i 0 % 2 ^ 64) ≡ count_ones (get_or words i 0) = ap count_ones whole in
-    let goal : length (below (is_set words) (64 * (i + 1))) ≡ length (below (is_set words) (64 * i + 64)) = ap (λ n. length (below (is_set words) n)) next in
+    let goal : length (numbers_below (is_set words) (64 * (i + 1))) ≡ length (numbers_below (is_set words) (64 * i + 64)) = ap (λ n. length (numbers_below (is_set words) n)) next in
     omega (arith, e, all, last, goal)
 
 -- a part of the next word
 pub length-part_word : (words : List ℕ) (n ones low i : ℕ) → i ≤ n / 64 → n / 64 ≤ i
-    → ones ≡ length (below (is_set words) (64 * i)) → low ≡ 2 ^ min (n % 64) 64 - 1
-    → ones + count_ones (bit_and (get_or words (n / 64) 0) low) ≡ length (below (is_set words) n)
+    → ones ≡ length (numbers_below (is_set words) (64 * i)) → low ≡ 2 ^ min (n % 64) 64 - 1
+    → ones + count_ones (bit_and (get_or words (n / 64) 0) low) ≡ length (numbers_below (is_set words) n)
 length-part_word words n ones low i under over counted l =
     let here : i ≡ n / 64 = omega arith in
-    let e : ones ≡ length (below (is_set words) (64 * (n / 64))) = counted ∙ ap (λ k. length (below (is_set words) (64 * k))) here in
+    let e : ones ≡ length (numbers_below (is_set words) (64 * (n / 64))) = counted ∙ ap (λ k. length (numbers_below (is_set words) (64 * k))) here in
     let w = get_or words (n / 64) 0 in
     let least : min (n % 64) 64 ≡ n % 64 = omega arith in
     let mask : bit_and w low ≡ w % 2 ^ (n % 64) = ap (bit_and w) (l ∙ ap (λ k. 2 ^ k - 1) least) ∙ and_mask w (n % 64) in
     let part = length-word words (n / 64) (n % 64) (omega arith) in
     let whole : 64 * (n / 64) + n % 64 ≡ n = omega arith in
     let last : count_ones (bit_and w low) ≡ count_ones (w % 2 ^ (n % 64)) = ap count_ones mask in
-    let goal : length (below (is_set words) (64 * (n / 64) + n % 64)) ≡ length (below (is_set words) n) = ap (λ k. length (below (is_set words) k)) whole in
+    let goal : length (numbers_below (is_set words) (64 * (n / 64) + n % 64)) ≡ length (numbers_below (is_set words) n) = ap (λ k. length (numbers_below (is_set words) k)) whole in
     omega (arith, e, part, last, goal)
 
 -- ---- `count`, `rank` and `nth`
 
-pub count_by-members : (words : List ℕ) (n : ℕ) → count_by (λ m. ltb m n) (members_of words) ≡ length (below (is_set words) (min n 256))
+pub count_by-members : (words : List ℕ) (n : ℕ) → count_by (λ m. ltb m n) (members_of words) ≡ length (numbers_below (is_set words) (min n 256))
 count_by-members words n =
-    ap (count_by (λ m. ltb m n)) (row_of-below (is_set words)) ∙ elim (cases_lt n 256) [
+    ap (count_by (λ m. ltb m n)) (row_of-numbers_below (is_set words)) ∙ elim (cases_lt n 256) [
       | inl less ↦
           let least : n ≡ min n 256 = omega arith in
-          count_by-below (is_set words) 256 n (omega arith) ∙ ap (λ k. length (below (is_set words) k)) least
+          count_by-numbers_below (is_set words) 256 n (omega arith) ∙ ap (λ k. length (numbers_below (is_set words) k)) least
       | inr more ↦
           let least : 256 ≡ min n 256 = omega arith in
-          count_by-below_all (is_set words) 256 n more ∙ ap (λ k. length (below (is_set words) k)) least
+          count_by-numbers_below_all (is_set words) 256 n more ∙ ap (λ k. length (numbers_below (is_set words) k)) least
     ]
 
-pub length-members : (words : List ℕ) → length (below (is_set words) 256) ≡ length (members_of words)
-length-members words = ap length (sym (row_of-below (is_set words)))
+pub length-members : (words : List ℕ) → length (numbers_below (is_set words) 256) ≡ length (members_of words)
+length-members words = ap length (sym (row_of-numbers_below (is_set words)))
 
 -- the number of members below 0, and below 256
 pub count_by-none : (xs : List ℕ) → row_of (is_member xs) ≡ xs → count_by (λ m. ltb m 0) xs ≡ 0
-unfolding below
+unfolding numbers_below
 count_by-none xs whole =
-    let e = sym (row_of-below (is_member xs)) ∙ whole in
-    ap (count_by (λ m. ltb m 0)) (sym e) ∙ count_by-below (is_member xs) 256 0 (omega arith)
+    let e = sym (row_of-numbers_below (is_member xs)) ∙ whole in
+    ap (count_by (λ m. ltb m 0)) (sym e) ∙ count_by-numbers_below (is_member xs) 256 0 (omega arith)
 
 pub count_by-all : (xs : List ℕ) → row_of (is_member xs) ≡ xs → count_by (λ m. ltb m 256) xs ≡ length xs
 count_by-all xs whole =
-    let e = sym (row_of-below (is_member xs)) ∙ whole in
-    ap (count_by (λ m. ltb m 256)) (sym e) ∙ count_by-below_all (is_member xs) 256 256 (omega arith) ∙ ap length e
+    let e = sym (row_of-numbers_below (is_member xs)) ∙ whole in
+    ap (count_by (λ m. ltb m 256)) (sym e) ∙ count_by-numbers_below_all (is_member xs) 256 256 (omega arith) ∙ ap length e
 
 found_here : (b : Bool) (i k : ℕ) → i ≤ k → k < i + cond b 1 0 → (b ≡ true) × (k ≡ i)
 found_here true i k h l = (refl, omega arith)
@@ -306,16 +306,16 @@ pub slice_get-found : (xs : List ℕ) (k low high : ℕ) → row_of (is_member x
     → count_by (λ m. ltb m low) xs ≤ k → k < count_by (λ m. ltb m high) xs → slice_get xs k ≡ Some low
 slice_get-found xs k low high whole below_high next top before after =
     let p = is_member xs in
-    let e : below p 256 ≡ xs = sym (row_of-below p) ∙ whole in
+    let e : numbers_below p 256 ≡ xs = sym (row_of-numbers_below p) ∙ whole in
     let follows : high ≡ suc low = omega arith in
-    let at_low : count_by (λ m. ltb m low) xs ≡ length (below p low) =
-    ap (count_by (λ m. ltb m low)) (sym e) ∙ count_by-below p 256 low (omega arith) in
-    let at_high : count_by (λ m. ltb m high) xs ≡ length (below p low) + cond (p low) 1 0 =
-    ap (count_by (λ m. ltb m high)) (sym e) ∙ count_by-below p 256 high top
-    ∙ ap (λ n. length (below p n)) follows ∙ length-below p low in
-    let found = found_here (p low) (length (below p low)) k (omega (arith, before, at_low)) (omega (arith, after, at_high)) in
-    ap (λ xs. slice_get xs k) (sym e) ∙ ap (slice_get (below p 256)) found.1
-    ∙ slice_get-below p 256 low (omega arith) found.0
+    let at_low : count_by (λ m. ltb m low) xs ≡ length (numbers_below p low) =
+    ap (count_by (λ m. ltb m low)) (sym e) ∙ count_by-numbers_below p 256 low (omega arith) in
+    let at_high : count_by (λ m. ltb m high) xs ≡ length (numbers_below p low) + cond (p low) 1 0 =
+    ap (count_by (λ m. ltb m high)) (sym e) ∙ count_by-numbers_below p 256 high top
+    ∙ ap (λ n. length (numbers_below p n)) follows ∙ length-numbers_below p low in
+    let found = found_here (p low) (length (numbers_below p low)) k (omega (arith, before, at_low)) (omega (arith, after, at_high)) in
+    ap (λ xs. slice_get xs k) (sym e) ∙ ap (slice_get (numbers_below p 256)) found.1
+    ∙ slice_get-numbers_below p 256 low (omega arith) found.0
 
 -- ---- `full`
 
@@ -351,17 +351,17 @@ full_at n m h =
     ap (λ w. eqb (bit_at w (m % 64)) 1) (full_word_at n (m / 64) (omega arith))
     ∙ low_word_at (n - 64 * (m / 64)) (m % 64) (omega arith) ∙ moved
 
-below_whole : (c n : ℕ) → n ≤ c → below (λ m. ltb m c) n ≡ range_with_len 0 n
-unfolding below
+below_whole : (c n : ℕ) → n ≤ c → numbers_below (λ m. ltb m c) n ≡ range_with_len 0 n
+unfolding numbers_below
 below_whole c zero h = refl
 below_whole c (suc n) h =
     let last : 0 + n ≡ n = omega arith in
-    ap (λ b. below (λ m. ltb m c) n ++ cond b (n ∷ []) []) (lt-ltb n c (omega arith))
+    ap (λ b. numbers_below (λ m. ltb m c) n ++ cond b (n ∷ []) []) (lt-ltb n c (omega arith))
     ∙ ap (λ xs. xs ++ n ∷ []) (below_whole c n (omega arith))
     ∙ sym (range_with_len-more 0 n ∙ ap (λ x. range_with_len 0 n ++ x ∷ []) last)
 
-below_rest : (c n : ℕ) → c ≤ n → below (λ m. ltb m c) n ≡ range_with_len 0 c
-unfolding below
+below_rest : (c n : ℕ) → c ≤ n → numbers_below (λ m. ltb m c) n ≡ range_with_len 0 c
+unfolding numbers_below
 below_rest c zero h =
     let same : zero ≡ c = omega arith in
     ap (range_with_len 0) same
@@ -370,14 +370,14 @@ below_rest c (suc n) h = elim (cases_lt n c) [
       let same : suc n ≡ c = omega arith in
       below_whole c (suc n) (omega arith) ∙ ap (range_with_len 0) same
   | inr within ↦
-      ap (λ b. below (λ m. ltb m c) n ++ cond b (n ∷ []) []) (le-ltb n c within)
-      ∙ append-nil (below (λ m. ltb m c) n) ∙ below_rest c n within
+      ap (λ b. numbers_below (λ m. ltb m c) n ++ cond b (n ∷ []) []) (le-ltb n c within)
+      ∙ append-nil (numbers_below (λ m. ltb m c) n) ∙ below_rest c n within
 ]
 
 pub members_of-full : (words : List ℕ) (n : ℕ) → n ≤ 256 → words ≡ full_words n → members_of words ≡ range_with_len 0 n
 members_of-full words n h e =
     ap members_of e ∙ row_of-same (is_set (full_words n)) (λ m. ltb m n) (λ m l. full_at n m l)
-    ∙ row_of-below (λ m. ltb m n) ∙ below_rest n 256 h
+    ∙ row_of-numbers_below (λ m. ltb m n) ∙ below_rest n 256 h
 
 -- the bit that `put` adds fits a word
 pub bit_fits : (n : ℕ) → 1 * 2 ^ (n % 64) % 2 ^ 64 < 2 ^ 64
@@ -414,10 +414,10 @@ join_kept words old i w kept k l =
 -- ---- the last of `ones_before`
 
 pub length-no_part : (words : List ℕ) (n ones i : ℕ) → n ≤ 256 → 4 ≤ n / 64 → i ≤ n / 64 → n / 64 ≤ i
-    → ones ≡ length (below (is_set words) (64 * i)) → ones ≡ length (below (is_set words) n)
+    → ones ≡ length (numbers_below (is_set words) (64 * i)) → ones ≡ length (numbers_below (is_set words) n)
 length-no_part words n ones i h l under over e =
     let all : 64 * i ≡ n = omega arith in
-    e ∙ ap (λ k. length (below (is_set words) k)) all
+    e ∙ ap (λ k. length (numbers_below (is_set words) k)) all
 
 -- ---- `==`
 

@@ -1,4 +1,5 @@
--- Strings of bits, and the bytes that hold them: the highest bit of each byte first. This project's own.
+-- Strings of bits, and the bytes that hold them: the highest bit of each byte first. This project's
+-- own.
 use Rattle.std.specs.Prelude.{◌≡◌, ℕ, zero, suc, ◌+◌, ◌-◌, ◌*◌, ◌/◌, ◌%◌, ◌^◌, ◌<◌, ◌≤◌, bit_and, bit_or, Bool, true, false, ◌==◌, List, [], ◌∷◌, ◌++◌, length, take, drop, replicate, slice_index}
 use Rattle.std.specs.Int.{bit_at}
 
@@ -31,8 +32,8 @@ bits_of_bytes [] = []
 bits_of_bytes (byte ∷ bytes) = bits_of 8 byte ++ bits_of_bytes bytes
 
 -- the bits with zero bits after them, up to a whole byte
-abbrev pub filled : List Bool → List Bool
-filled bits = bits ++ replicate ((8 - length bits % 8) % 8) false
+abbrev pub filled_bits : List Bool → List Bool
+filled_bits bits = bits ++ replicate ((8 - length bits % 8) % 8) false
 
 -- the first n bytes that the bits make, eight bits a byte
 unfoldable pub first_bytes : ℕ → List Bool → List ℕ
@@ -41,11 +42,12 @@ first_bytes (suc n) bits = number_of (take 8 bits) ∷ first_bytes n (drop 8 bit
 
 -- the bytes that hold the bits, the last filled with zero bits
 unfoldable pub bytes_of : List Bool → List ℕ
-bytes_of bits = first_bytes (length (filled bits) / 8) (filled bits)
+bytes_of bits = first_bytes (length (filled_bits bits) / 8) (filled_bits bits)
 
 -- ---- a bit by its place in bytes
 
--- the bit at a place of the bytes, counted from the highest bit of the first byte; false past their end
+-- the bit at a place of the bytes, counted from the highest bit of the first byte; false past their
+-- end
 unfoldable pub bit_in : List ℕ → ℕ → Bool
 bit_in bytes place = has_bit (slice_index bytes (place / 8)) (7 - place % 8)
 
@@ -62,7 +64,8 @@ pub record LaysOver (old new : List ℕ) (first window : ℕ) : Type 0 where
   pub long : length new ≡ length old
   pub fit : (k : ℕ) → slice_index new k < 256
   pub written : (k : ℕ) → first ≤ k → k < first + 5 → k < length old
-      → slice_index new k ≡ bit_or (slice_index old k) (bit_and (window / 2 ^ (32 - 8 * (k - first))) 0xff)
+      → slice_index new k
+      ≡ bit_or (slice_index old k) (bit_and (window / 2 ^ (32 - 8 * (k - first))) 0xff)
   pub before : (k : ℕ) → k < first → slice_index new k ≡ slice_index old k
   pub behind : (k : ℕ) → first + 5 ≤ k → slice_index new k ≡ slice_index old k
 

@@ -1,4 +1,4 @@
--- A set of numbers from 0 to 255, as the list of its members in order. This project's own.
+-- A row: a set of numbers from 0 to 255, as the list of its members in order. This project's own.
 use Rattle.std.specs.Prelude.{◌≡◌, ℕ, zero, suc, ◌+◌, ◌*◌, ◌/◌, ◌%◌, ◌^◌, ◌<◌, Bool, ◌==◌, if◌then◌else◌, List, [], ◌∷◌, length, filter, All, slice_index}
 use Rattle.std.specs.List.{range_with_len, list_any}
 use Rattle.std.specs.List.Sorted.{IsStrictlyIncreasing}
@@ -43,4 +43,5 @@ word_of members k = number_with (λ i. is_member members (64 * k + i)) 64
 
 -- the words that have the members
 unfoldable pub words_of : List ℕ → List ℕ
-words_of members = word_of members 0 ∷ word_of members 1 ∷ word_of members 2 ∷ word_of members 3 ∷ []
+words_of members =
+    word_of members 0 ∷ word_of members 1 ∷ word_of members 2 ∷ word_of members 3 ∷ []

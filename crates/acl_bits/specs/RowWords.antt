@@ -1,4 +1,5 @@
--- The words that hold a set give its members, and the members give the words back.
+-- The words that hold a set give its members, and the members give the words back. This project's
+-- own.
 use Rattle.std.proofs.Common.{◌≡◌, ℕ, zero, suc, ◌+◌, ◌*◌, ◌/◌, ◌%◌, ◌^◌, ◌<◌, Bool, cond, eqb, List, [], ◌∷◌, length, get_or, refl, ap, arith, sym, ◌∙◌}
 use Rattle.std.specs.Int.{bit_at}
 use Rattle.std.proofs.lemmas.Bool.Decides.{nat_tests}
@@ -15,10 +16,11 @@ is_set_at words k i h =
     let place : (64 * k + i) % 64 ≡ i = omega arith in
     ap (λ x. eqb (bit_at (get_or words x 0) ((64 * k + i) % 64)) 1) word ∙ ap (λ x. eqb (bit_at (get_or words k 0) x) 1) place
 
+-- a number where a bit is 1, and 0 where it is 0, is the bit times the number
 digit_step : (b x : ℕ) → b < 2 → cond (eqb b 1) x 0 ≡ b * x
 digit_step b x h = grind (arith, nat_tests)
 
--- the bits of a number, put together
+-- the number put together from the n lowest bits of w is w modulo 2 ^ n
 number_with-bits : (w : ℕ) (p : ℕ → Bool) (n : ℕ) → ((i : ℕ) → i < n → p i ≡ eqb (bit_at w i) 1) → number_with p n ≡ w % 2 ^ n
 unfolding number_with
 number_with-bits w p zero h = omega arith
@@ -30,12 +32,14 @@ number_with-bits w p (suc n) h =
     ∙ ap (λ k. w % 2 ^ n + k) (digit_step (bit_at w n) (2 ^ n) (bit_at-lt w n))
     ∙ split ∙ sym (mod-pow-add w 1 n) ∙ ap (λ k. w % 2 ^ k) one_more
 
+-- word k that is made of the members is word k that they came from
 word_of-members : (words : List ℕ) (k : ℕ) → k < 4 → get_or words k 0 < 2 ^ 64 → word_of (members_of words) k ≡ get_or words k 0
 word_of-members words k h fits =
     number_with-bits (get_or words k 0) (λ i. is_member (members_of words) (64 * k + i)) 64
     (λ i l. is_member-row_of (is_set words) (64 * k + i) (omega arith) ∙ is_set_at words k i l)
     ∙ omega (arith, fits)
 
+-- a list of four elements is the list of its elements at 0, 1, 2 and 3
 four_cells : (xs : List ℕ) → length xs ≡ 4 → get_or xs 0 0 ∷ get_or xs 1 0 ∷ get_or xs 2 0 ∷ get_or xs 3 0 ∷ [] ≡ xs
 four_cells [] e = absurd (omega arith)
 four_cells (a ∷ []) e = absurd (omega arith)
@@ -44,6 +48,7 @@ four_cells (a ∷ b ∷ c ∷ []) e = absurd (omega arith)
 four_cells (a ∷ b ∷ c ∷ d ∷ []) e = refl
 four_cells (a ∷ b ∷ c ∷ d ∷ x ∷ xs) e = absurd (omega arith)
 
+-- the words that are made of the members are the words that they came from
 pub words_of-members : (words : List ℕ) → AreWords words → words_of (members_of words) ≡ words
 unfolding words_of
 words_of-members words h =

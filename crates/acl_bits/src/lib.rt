@@ -1,9 +1,14 @@
 //! Sets of numbers from 0 to 255, and strings of bits in bytes. Nothing here takes memory.
 #![tactic(auto)]
 
-pub mod bit_in;
-pub mod bit_out;
-pub mod row;
-pub mod short;
+pub use bit_reader::BitIn;
+pub use bit_writer::{BitOut, bits_put_are_bits_taken};
+pub use number_set::{Row, sets_have_what_passes};
+pub use shortage::Short;
+
+mod bit_reader;
+mod bit_writer;
+mod number_set;
+mod shortage;
 #[cfg(test)]
 mod tests;

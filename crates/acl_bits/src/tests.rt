@@ -1,8 +1,6 @@
 ghost use Rattle.std.specs.Prelude.{◌≡◌, ◌+◌, ◌^◌, ◌≤◌, length};
 
-use crate::bit_in::BitIn;
-use crate::bit_out::BitOut;
-use crate::short::Short;
+use crate::{BitIn, BitOut, Short};
 use std::process::Abort;
 
 // Each value is written out by hand in binary, and the bytes are those digits in eights.
@@ -35,8 +33,8 @@ fn values_cross_the_edges_of_bytes(rt: HostRuntime) {
     );
 }
 
-// The head of the root of a small index, written out by hand: a first bit, the place among four names,
-// whether there are children, the names below, and a length in five bits.
+// The head of the root of a small index, written out by hand: a first bit, the place among four
+// names, whether there are children, the names below, and a length in five bits.
 #[test]
 fn a_head_of_an_index_is_read_bit_by_bit(rt: HostRuntime) {
     let mut bits = BitIn::new(&[0b1001_0111, 0b1011_0000]);

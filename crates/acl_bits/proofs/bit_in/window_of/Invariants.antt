@@ -1,6 +1,0 @@
--- The window so far has the bits of the bytes so far.
-use Rattle.acl_bits.proofs.Windows.{IsWindowTo}
-use Rattle.acl_bits.proofs.bit_in.window_of.Given as goal
-
-abbrev pub invariant-loop-i : goal.invariant-loop-i
-invariant-loop-i l = IsWindowTo l.window l.bytes l.i

@@ -1,6 +1,0 @@
--- The bytes from `first` up to i have the window over them, and the others are as they were.
-use Rattle.acl_bits.proofs.Windows.{LaysUpTo}
-use Rattle.acl_bits.proofs.bit_out.lay_over.Given as goal
-
-abbrev pub invariant-loop-i : goal.invariant-loop-i
-invariant-loop-i l = LaysUpTo l.fn.bytes l.bytes l.first l.window l.i

@@ -1,0 +1,193 @@
+//! A set of numbers from 0 to 255 in four words: number `n` is a member exactly where bit `n % 64`
+//! of word `n / 64` is 1.
+
+ghost use Rattle.std.specs.Prelude.{◌≡◌, ◌↔◌, ◌<◌, ◌≤◌, ◌==◌, ◌||◌, ◌-◌, ◌^◌, nat_lt, min, [], length, count_by, slice_get, IsNone, ℕ, Bool, false};
+ghost use Rattle.std.specs.List.{range_with_len, list_any};
+ghost use Rattle.acl_bits.specs.Row.{row_of, is_member, is_set, IsRow};
+ghost use Rattle.acl_bits.specs.RowLaws.{numbers_below};
+
+use std::marker::Model;
+
+#[cfg(test)]
+mod tests;
+
+/// The numbers that a set may hold: those below.
+const NUMBERS: u16 = 256;
+
+/// A set of numbers from 0 to 255. Contracts see its members in rising order.
+#[derive(Clone, Copy, Debug)]
+pub struct Row {
+    words: [u64; 4],
+}
+
+impl Model for Row {
+    ghost use Rattle.std.specs.Prelude.{List, ℕ};
+    ghost use Rattle.acl_bits.specs.Row.{AreWords, members_of, words_of};
+    ghost use Rattle.std.proofs.Common.{ap};
+    ghost use Rattle.acl_bits.specs.RowWords.{words_of-members};
+
+    ghost Value = { List ℕ };
+
+    ghost view = { λ r. members_of r.words };
+
+    ghost invariant = { λ r. AreWords r.words };
+
+    ghost inverse = { λ members. record { words = words_of members } };
+
+    ghost inverse_ok = { λ r h. ap (λ ws. record { words = ws }) (words_of-members r.words h) };
+}
+
+impl PartialEq for Row {
+    ghost use Rattle.std.specs.Prelude.{◌==◌};
+    ghost use Rattle.std.specs.Cmp.Lexicographic.{pointwise};
+    ghost use Rattle.std.specs.Cmp.Rules.{comparing};
+    ghost use Rattle.std.proofs.Common.{rules};
+
+    ghost eq = { pointwise ◌==◌ };
+
+    ghost laws = { Prim.search (comparing, rules) };
+
+    fn eq(&self, other: &Row) -> bool {
+        self.words == other.words
+    }
+}
+
+impl Eq for Row {
+    ghost use Rattle.std.specs.Cmp.Rules.{comparing};
+    ghost use Rattle.std.proofs.Common.{rules};
+
+    ghost laws = { Prim.search (comparing, rules) };
+}
+
+impl Row {
+    /// The empty set.
+    pub fn none() -> Row
+        ensures { result ≡ [] }
+    {
+        Row { words: [0; 4] }
+    }
+
+    /// The numbers from 0 on, `count` of them.
+    pub fn full(count: u16) -> Row
+        requires { count ≤ 256 }
+        ensures { result ≡ range_with_len 0 count }
+    {
+        Row {
+            words: [
+                low_ones(count),
+                low_ones(count.saturating_sub(64)),
+                low_ones(count.saturating_sub(128)),
+                low_ones(count.saturating_sub(192)),
+            ],
+        }
+    }
+
+    /// Whether `n` is a member. No number from 256 on is one.
+    pub fn has(&self, n: u16) -> bool
+        ensures { result ≡ is_member self.now n }
+    {
+        n < NUMBERS && self.words[(n / 64) as usize] >> (n % 64) & 1 == 1
+    }
+
+    /// Makes `n` a member.
+    pub fn put(&mut self, n: u16)
+        requires { n < 256 }
+        ensures { self.new ≡ row_of (λ m. m == n || is_member self.old m) }
+    {
+        self.words[(n / 64) as usize] |= 1 << (n % 64);
+    }
+
+    /// Whether the two sets have a member in common.
+    pub fn meets(&self, other: &Row) -> bool
+        ensures { result ≡ list_any (is_member other.now) self.now }
+    {
+        for i in 0..4 {
+            if self.words[i] & other.words[i] != 0 {
+                return true;
+            }
+        }
+        false
+    }
+
+    /// Makes each member of `other` a member.
+    pub fn join(&mut self, other: &Row)
+        ensures { self.new ≡ row_of (λ m. is_member self.old m || is_member other.now m) }
+    {
+        for i in 0..4 {
+            self.words[i] |= other.words[i];
+        }
+    }
+
+    /// The number of members, at most 256.
+    pub fn count(&self) -> u16
+        ensures number { result ≡ length self.now }
+
+        // What each set is: its members rise and are below 256, and they alone tell it.
+        ensures row { IsRow self.now }
+        ensures whole { row_of (is_member self.now) ≡ self.now }
+    {
+        ones_before(&self.words, NUMBERS)
+    }
+
+    /// The number of members below `n`.
+    pub fn rank(&self, n: u16) -> u16
+        ensures { result ≡ count_by (λ m. nat_lt m n) self.now }
+    {
+        ones_before(&self.words, n.min(NUMBERS))
+    }
+
+    /// The member that has `k` members below it, if there are more than `k`.
+    pub fn nth(&self, k: u16) -> Option<u16>
+        ensures value { result ≡ slice_get self.now k }
+        ensures none { IsNone result ↔ (length self.now ≤ k) }
+    {
+        if k >= self.count() {
+            return None;
+        }
+        let mut low = 0;
+        let mut high = NUMBERS;
+        while high - low > 1 {
+            let middle = (low + high) / 2;
+            if self.rank(middle) <= k {
+                low = middle;
+            } else {
+                high = middle;
+            }
+        }
+        Some(low)
+    }
+}
+
+/// A law: of the numbers below 256, a set that a test makes has those that pass, in rising order.
+pub fn sets_have_what_passes()
+    ensures member { (test : ℕ → Bool) (n : ℕ) → n < 256 → is_member (row_of test) n ≡ test n }
+    ensures past { (test : ℕ → Bool) (n : ℕ) → 256 ≤ n → is_member (row_of test) n ≡ false }
+    ensures row { (test : ℕ → Bool) → IsRow (row_of test) }
+{}
+
+/// The word whose lowest `count` bits are 1, or all bits where there are no more.
+fn low_ones(count: u16) -> u64
+    ensures { result ≡ 2 ^ min count 64 - 1 }
+{
+    if count < 64 {
+        (1 << count) - 1
+    } else {
+        u64::MAX
+    }
+}
+
+/// How many of the first `n` bits of the words are 1.
+fn ones_before(words: &[u64; 4], n: u16) -> u16
+    requires { n ≤ 256 }
+    ensures { result ≡ length (numbers_below (is_set words.now) n) }
+{
+    let whole = (n / 64) as usize;
+    let mut ones = 0;
+    for i in 0..whole {
+        ones += words[i].count_ones();
+    }
+    if whole < 4 {
+        ones += (words[whole] & low_ones(n % 64)).count_ones();
+    }
+    ones as u16
+}
