@@ -70,6 +70,6 @@ mul_inverse (suc n) pos lt =
     subst (λ (x : ℕ). mul x (field_inverse x) ≡ 1) (sym e)
     (same_below 255 (λ x. mul (x + 1) (field_inverse (x + 1))) (λ _. 1) mul_inverse_test n (omega arith))
 
-inverse_of_zero : field_inverse 0 ≡ 0
+pub inverse_of_zero : field_inverse 0 ≡ 0
 unfolding mul product remainder squares_product field_inverse
 inverse_of_zero = refl

@@ -8,16 +8,16 @@ use Rattle.aes_block.proofs.States.{IsState, IsState-add_round_key, add_round_ke
 abbrev pub HasKeys : List (List ℕ) → ℕ → Type 0
 HasKeys words n = (r : ℕ) → r ≤ n → IsState (round_key words r)
 
-abbrev scrambled : List ℕ → List ℕ
+abbrev pub scrambled : List ℕ → List ℕ
 scrambled s = shift_rows (sub_bytes s)
 
-abbrev unscrambled : List ℕ → List ℕ
+abbrev pub unscrambled : List ℕ → List ℕ
 unscrambled s = inverse_sub_bytes (inverse_shift_rows s)
 
-IsState-scrambled : (s : List ℕ) → IsState s → IsState (scrambled s)
+pub IsState-scrambled : (s : List ℕ) → IsState s → IsState (scrambled s)
 IsState-scrambled s is = IsState-shift_rows (sub_bytes s) (IsState-sub_bytes s is)
 
-IsState-unscrambled : (s : List ℕ) → IsState s → IsState (unscrambled s)
+pub IsState-unscrambled : (s : List ℕ) → IsState s → IsState (unscrambled s)
 IsState-unscrambled s is = IsState-inverse_sub_bytes (inverse_shift_rows s) (IsState-inverse_shift_rows s is)
 
 unscrambled-scrambled : (s : List ℕ) → IsState s → unscrambled (scrambled s) ≡ s

@@ -9,3 +9,4 @@ pub mod WordLemmas
 pub mod ScheduleLemmas
 pub mod Vectors
 pub mod KeyLemmas
+pub mod KeyStates

@@ -4,7 +4,7 @@ use Rattle.std.proofs.lemmas.Nat.{xor_of_8}
 use Rattle.std.proofs.lemmas.List.{length-map}
 use lib.Bits.{xor_assoc, xor_self, xor_zero_r}
 use Rattle.aes_block.specs.Field.{product, remainder, mul}
-use Rattle.aes_block.specs.Aes.{sub_byte, inverse_sub_byte, sub_bytes, inverse_sub_bytes, xor4, xor_bytes, word_product_row, mix_polynomial, inverse_mix_polynomial, shift_rows, inverse_shift_rows, mix_columns, inverse_mix_columns, add_round_key}
+use Rattle.aes_block.specs.Aes.{sub_byte, inverse_sub_byte, sub_bytes, inverse_sub_bytes, xor4, xor_bytes, word_product_row, mix_word, inverse_mix_word, shift_rows, inverse_shift_rows, mix_columns, inverse_mix_columns, add_round_key}
 use Rattle.aes_block.proofs.Bytes.{passes_below, bounded_below}
 use Rattle.aes_block.proofs.Columns.{word_product_row-xor, undone_row_0, undone_row_1, undone_row_2, undone_row_3, redone_row_0, redone_row_1, redone_row_2, redone_row_3}
 use Rattle.aes_block.proofs.Substitution.{sub_byte-lt, inverse_sub_byte-lt, inverse_sub_byte-sub_byte, sub_byte-inverse_sub_byte}
@@ -28,7 +28,7 @@ pub AllBytes-append : (xs ys : List ℕ) → AllBytes xs → AllBytes ys → All
 AllBytes-append [] ys all also = also
 AllBytes-append (x ∷ xs) ys all also = (all.0, AllBytes-append xs ys all.1 also)
 
-AllBytes-map : (f : ℕ → ℕ) → ((x : ℕ) → x < 256 → f x < 256) → (xs : List ℕ) → AllBytes xs → AllBytes (map f xs)
+pub AllBytes-map : (f : ℕ → ℕ) → ((x : ℕ) → x < 256 → f x < 256) → (xs : List ℕ) → AllBytes xs → AllBytes (map f xs)
 AllBytes-map f keeps [] all = tt
 AllBytes-map f keeps (x ∷ xs) all = (keeps x all.0, AllBytes-map f keeps xs all.1)
 
@@ -168,22 +168,22 @@ times_14_test = refl
 times_14_lt : (x : ℕ) → x < 256 → mul 14 x < 256
 times_14_lt = bounded_below 256 256 (mul 14) times_14_test
 
-row_0_lt : (b0 b1 b2 b3 : ℕ) → b0 < 256 → b1 < 256 → b2 < 256 → b3 < 256 → word_product_row mix_polynomial 0 b0 b1 b2 b3 < 256
+row_0_lt : (b0 b1 b2 b3 : ℕ) → b0 < 256 → b1 < 256 → b2 < 256 → b3 < 256 → word_product_row mix_word 0 b0 b1 b2 b3 < 256
 row_0_lt b0 b1 b2 b3 l0 l1 l2 l3 =
     xor4_lt (mul 2 b0) (mul 3 b1) (mul 1 b2) (mul 1 b3)
     (times_2_lt b0 l0) (times_3_lt b1 l1) (times_1_lt b2 l2) (times_1_lt b3 l3)
 
-row_1_lt : (b0 b1 b2 b3 : ℕ) → b0 < 256 → b1 < 256 → b2 < 256 → b3 < 256 → word_product_row mix_polynomial 1 b0 b1 b2 b3 < 256
+row_1_lt : (b0 b1 b2 b3 : ℕ) → b0 < 256 → b1 < 256 → b2 < 256 → b3 < 256 → word_product_row mix_word 1 b0 b1 b2 b3 < 256
 row_1_lt b0 b1 b2 b3 l0 l1 l2 l3 =
     xor4_lt (mul 1 b0) (mul 2 b1) (mul 3 b2) (mul 1 b3)
     (times_1_lt b0 l0) (times_2_lt b1 l1) (times_3_lt b2 l2) (times_1_lt b3 l3)
 
-row_2_lt : (b0 b1 b2 b3 : ℕ) → b0 < 256 → b1 < 256 → b2 < 256 → b3 < 256 → word_product_row mix_polynomial 2 b0 b1 b2 b3 < 256
+row_2_lt : (b0 b1 b2 b3 : ℕ) → b0 < 256 → b1 < 256 → b2 < 256 → b3 < 256 → word_product_row mix_word 2 b0 b1 b2 b3 < 256
 row_2_lt b0 b1 b2 b3 l0 l1 l2 l3 =
     xor4_lt (mul 1 b0) (mul 1 b1) (mul 2 b2) (mul 3 b3)
     (times_1_lt b0 l0) (times_1_lt b1 l1) (times_2_lt b2 l2) (times_3_lt b3 l3)
 
-row_3_lt : (b0 b1 b2 b3 : ℕ) → b0 < 256 → b1 < 256 → b2 < 256 → b3 < 256 → word_product_row mix_polynomial 3 b0 b1 b2 b3 < 256
+row_3_lt : (b0 b1 b2 b3 : ℕ) → b0 < 256 → b1 < 256 → b2 < 256 → b3 < 256 → word_product_row mix_word 3 b0 b1 b2 b3 < 256
 row_3_lt b0 b1 b2 b3 l0 l1 l2 l3 =
     xor4_lt (mul 3 b0) (mul 1 b1) (mul 1 b2) (mul 2 b3)
     (times_3_lt b0 l0) (times_1_lt b1 l1) (times_1_lt b2 l2) (times_2_lt b3 l3)
@@ -264,22 +264,22 @@ inverse_mix_columns-mix_columns s is =
     undone_row_3 (get_or s 12 0) (get_or s 13 0) (get_or s 14 0) (get_or s 15 0) (byte_lt s is.bytes 12) (byte_lt s is.bytes 13) (byte_lt s is.bytes 14) (byte_lt s is.bytes 15) i ∷ [])
     ∙ sym (cells s is.size)
 
-inverse_row_0_lt : (b0 b1 b2 b3 : ℕ) → b0 < 256 → b1 < 256 → b2 < 256 → b3 < 256 → word_product_row inverse_mix_polynomial 0 b0 b1 b2 b3 < 256
+inverse_row_0_lt : (b0 b1 b2 b3 : ℕ) → b0 < 256 → b1 < 256 → b2 < 256 → b3 < 256 → word_product_row inverse_mix_word 0 b0 b1 b2 b3 < 256
 inverse_row_0_lt b0 b1 b2 b3 l0 l1 l2 l3 =
     xor4_lt (mul 14 b0) (mul 11 b1) (mul 13 b2) (mul 9 b3)
     (times_14_lt b0 l0) (times_11_lt b1 l1) (times_13_lt b2 l2) (times_9_lt b3 l3)
 
-inverse_row_1_lt : (b0 b1 b2 b3 : ℕ) → b0 < 256 → b1 < 256 → b2 < 256 → b3 < 256 → word_product_row inverse_mix_polynomial 1 b0 b1 b2 b3 < 256
+inverse_row_1_lt : (b0 b1 b2 b3 : ℕ) → b0 < 256 → b1 < 256 → b2 < 256 → b3 < 256 → word_product_row inverse_mix_word 1 b0 b1 b2 b3 < 256
 inverse_row_1_lt b0 b1 b2 b3 l0 l1 l2 l3 =
     xor4_lt (mul 9 b0) (mul 14 b1) (mul 11 b2) (mul 13 b3)
     (times_9_lt b0 l0) (times_14_lt b1 l1) (times_11_lt b2 l2) (times_13_lt b3 l3)
 
-inverse_row_2_lt : (b0 b1 b2 b3 : ℕ) → b0 < 256 → b1 < 256 → b2 < 256 → b3 < 256 → word_product_row inverse_mix_polynomial 2 b0 b1 b2 b3 < 256
+inverse_row_2_lt : (b0 b1 b2 b3 : ℕ) → b0 < 256 → b1 < 256 → b2 < 256 → b3 < 256 → word_product_row inverse_mix_word 2 b0 b1 b2 b3 < 256
 inverse_row_2_lt b0 b1 b2 b3 l0 l1 l2 l3 =
     xor4_lt (mul 13 b0) (mul 9 b1) (mul 14 b2) (mul 11 b3)
     (times_13_lt b0 l0) (times_9_lt b1 l1) (times_14_lt b2 l2) (times_11_lt b3 l3)
 
-inverse_row_3_lt : (b0 b1 b2 b3 : ℕ) → b0 < 256 → b1 < 256 → b2 < 256 → b3 < 256 → word_product_row inverse_mix_polynomial 3 b0 b1 b2 b3 < 256
+inverse_row_3_lt : (b0 b1 b2 b3 : ℕ) → b0 < 256 → b1 < 256 → b2 < 256 → b3 < 256 → word_product_row inverse_mix_word 3 b0 b1 b2 b3 < 256
 inverse_row_3_lt b0 b1 b2 b3 l0 l1 l2 l3 =
     xor4_lt (mul 11 b0) (mul 13 b1) (mul 9 b2) (mul 14 b3)
     (times_11_lt b0 l0) (times_13_lt b1 l1) (times_9_lt b2 l2) (times_14_lt b3 l3)
@@ -362,22 +362,22 @@ mix_columns-inverse_mix_columns s is =
 
 xor_written_out : (s k : List ℕ) → inverse_mix_columns (xor_bytes (written_out s) (written_out k)) ≡ xor_bytes (inverse_mix_columns (written_out s)) (inverse_mix_columns (written_out k))
 unfolding inverse_mix_columns xor_bytes
-xor_written_out s k = λ i. word_product_row-xor inverse_mix_polynomial 0 (get_or s 0 0) (get_or s 1 0) (get_or s 2 0) (get_or s 3 0) (get_or k 0 0) (get_or k 1 0) (get_or k 2 0) (get_or k 3 0) i ∷
-    word_product_row-xor inverse_mix_polynomial 1 (get_or s 0 0) (get_or s 1 0) (get_or s 2 0) (get_or s 3 0) (get_or k 0 0) (get_or k 1 0) (get_or k 2 0) (get_or k 3 0) i ∷
-    word_product_row-xor inverse_mix_polynomial 2 (get_or s 0 0) (get_or s 1 0) (get_or s 2 0) (get_or s 3 0) (get_or k 0 0) (get_or k 1 0) (get_or k 2 0) (get_or k 3 0) i ∷
-    word_product_row-xor inverse_mix_polynomial 3 (get_or s 0 0) (get_or s 1 0) (get_or s 2 0) (get_or s 3 0) (get_or k 0 0) (get_or k 1 0) (get_or k 2 0) (get_or k 3 0) i ∷
-    word_product_row-xor inverse_mix_polynomial 0 (get_or s 4 0) (get_or s 5 0) (get_or s 6 0) (get_or s 7 0) (get_or k 4 0) (get_or k 5 0) (get_or k 6 0) (get_or k 7 0) i ∷
-    word_product_row-xor inverse_mix_polynomial 1 (get_or s 4 0) (get_or s 5 0) (get_or s 6 0) (get_or s 7 0) (get_or k 4 0) (get_or k 5 0) (get_or k 6 0) (get_or k 7 0) i ∷
-    word_product_row-xor inverse_mix_polynomial 2 (get_or s 4 0) (get_or s 5 0) (get_or s 6 0) (get_or s 7 0) (get_or k 4 0) (get_or k 5 0) (get_or k 6 0) (get_or k 7 0) i ∷
-    word_product_row-xor inverse_mix_polynomial 3 (get_or s 4 0) (get_or s 5 0) (get_or s 6 0) (get_or s 7 0) (get_or k 4 0) (get_or k 5 0) (get_or k 6 0) (get_or k 7 0) i ∷
-    word_product_row-xor inverse_mix_polynomial 0 (get_or s 8 0) (get_or s 9 0) (get_or s 10 0) (get_or s 11 0) (get_or k 8 0) (get_or k 9 0) (get_or k 10 0) (get_or k 11 0) i ∷
-    word_product_row-xor inverse_mix_polynomial 1 (get_or s 8 0) (get_or s 9 0) (get_or s 10 0) (get_or s 11 0) (get_or k 8 0) (get_or k 9 0) (get_or k 10 0) (get_or k 11 0) i ∷
-    word_product_row-xor inverse_mix_polynomial 2 (get_or s 8 0) (get_or s 9 0) (get_or s 10 0) (get_or s 11 0) (get_or k 8 0) (get_or k 9 0) (get_or k 10 0) (get_or k 11 0) i ∷
-    word_product_row-xor inverse_mix_polynomial 3 (get_or s 8 0) (get_or s 9 0) (get_or s 10 0) (get_or s 11 0) (get_or k 8 0) (get_or k 9 0) (get_or k 10 0) (get_or k 11 0) i ∷
-    word_product_row-xor inverse_mix_polynomial 0 (get_or s 12 0) (get_or s 13 0) (get_or s 14 0) (get_or s 15 0) (get_or k 12 0) (get_or k 13 0) (get_or k 14 0) (get_or k 15 0) i ∷
-    word_product_row-xor inverse_mix_polynomial 1 (get_or s 12 0) (get_or s 13 0) (get_or s 14 0) (get_or s 15 0) (get_or k 12 0) (get_or k 13 0) (get_or k 14 0) (get_or k 15 0) i ∷
-    word_product_row-xor inverse_mix_polynomial 2 (get_or s 12 0) (get_or s 13 0) (get_or s 14 0) (get_or s 15 0) (get_or k 12 0) (get_or k 13 0) (get_or k 14 0) (get_or k 15 0) i ∷
-    word_product_row-xor inverse_mix_polynomial 3 (get_or s 12 0) (get_or s 13 0) (get_or s 14 0) (get_or s 15 0) (get_or k 12 0) (get_or k 13 0) (get_or k 14 0) (get_or k 15 0) i ∷ []
+xor_written_out s k = λ i. word_product_row-xor inverse_mix_word 0 (get_or s 0 0) (get_or s 1 0) (get_or s 2 0) (get_or s 3 0) (get_or k 0 0) (get_or k 1 0) (get_or k 2 0) (get_or k 3 0) i ∷
+    word_product_row-xor inverse_mix_word 1 (get_or s 0 0) (get_or s 1 0) (get_or s 2 0) (get_or s 3 0) (get_or k 0 0) (get_or k 1 0) (get_or k 2 0) (get_or k 3 0) i ∷
+    word_product_row-xor inverse_mix_word 2 (get_or s 0 0) (get_or s 1 0) (get_or s 2 0) (get_or s 3 0) (get_or k 0 0) (get_or k 1 0) (get_or k 2 0) (get_or k 3 0) i ∷
+    word_product_row-xor inverse_mix_word 3 (get_or s 0 0) (get_or s 1 0) (get_or s 2 0) (get_or s 3 0) (get_or k 0 0) (get_or k 1 0) (get_or k 2 0) (get_or k 3 0) i ∷
+    word_product_row-xor inverse_mix_word 0 (get_or s 4 0) (get_or s 5 0) (get_or s 6 0) (get_or s 7 0) (get_or k 4 0) (get_or k 5 0) (get_or k 6 0) (get_or k 7 0) i ∷
+    word_product_row-xor inverse_mix_word 1 (get_or s 4 0) (get_or s 5 0) (get_or s 6 0) (get_or s 7 0) (get_or k 4 0) (get_or k 5 0) (get_or k 6 0) (get_or k 7 0) i ∷
+    word_product_row-xor inverse_mix_word 2 (get_or s 4 0) (get_or s 5 0) (get_or s 6 0) (get_or s 7 0) (get_or k 4 0) (get_or k 5 0) (get_or k 6 0) (get_or k 7 0) i ∷
+    word_product_row-xor inverse_mix_word 3 (get_or s 4 0) (get_or s 5 0) (get_or s 6 0) (get_or s 7 0) (get_or k 4 0) (get_or k 5 0) (get_or k 6 0) (get_or k 7 0) i ∷
+    word_product_row-xor inverse_mix_word 0 (get_or s 8 0) (get_or s 9 0) (get_or s 10 0) (get_or s 11 0) (get_or k 8 0) (get_or k 9 0) (get_or k 10 0) (get_or k 11 0) i ∷
+    word_product_row-xor inverse_mix_word 1 (get_or s 8 0) (get_or s 9 0) (get_or s 10 0) (get_or s 11 0) (get_or k 8 0) (get_or k 9 0) (get_or k 10 0) (get_or k 11 0) i ∷
+    word_product_row-xor inverse_mix_word 2 (get_or s 8 0) (get_or s 9 0) (get_or s 10 0) (get_or s 11 0) (get_or k 8 0) (get_or k 9 0) (get_or k 10 0) (get_or k 11 0) i ∷
+    word_product_row-xor inverse_mix_word 3 (get_or s 8 0) (get_or s 9 0) (get_or s 10 0) (get_or s 11 0) (get_or k 8 0) (get_or k 9 0) (get_or k 10 0) (get_or k 11 0) i ∷
+    word_product_row-xor inverse_mix_word 0 (get_or s 12 0) (get_or s 13 0) (get_or s 14 0) (get_or s 15 0) (get_or k 12 0) (get_or k 13 0) (get_or k 14 0) (get_or k 15 0) i ∷
+    word_product_row-xor inverse_mix_word 1 (get_or s 12 0) (get_or s 13 0) (get_or s 14 0) (get_or s 15 0) (get_or k 12 0) (get_or k 13 0) (get_or k 14 0) (get_or k 15 0) i ∷
+    word_product_row-xor inverse_mix_word 2 (get_or s 12 0) (get_or s 13 0) (get_or s 14 0) (get_or s 15 0) (get_or k 12 0) (get_or k 13 0) (get_or k 14 0) (get_or k 15 0) i ∷
+    word_product_row-xor inverse_mix_word 3 (get_or s 12 0) (get_or s 13 0) (get_or s 14 0) (get_or s 15 0) (get_or k 12 0) (get_or k 13 0) (get_or k 14 0) (get_or k 15 0) i ∷ []
 
 -- the inverse mix of a sum is the sum of the inverse mixes (5.3.5)
 pub inverse_mix_columns-xor_bytes : (s k : List ℕ) → length s ≡ 16 → length k ≡ 16

@@ -2,7 +2,7 @@
 use Rattle.std.proofs.Common.{◌≡◌, ℕ, ◌/◌, ◌%◌, ◌^◌, ◌<◌, List, [], ◌∷◌, get_or, refl, ap, ◌∙◌, bit_xor}
 use Rattle.std.specs.Int.{w32, from_be_bytes}
 use Rattle.std.proofs.lemmas.Nat.{xor_shr, xor_mod, be_bytes_4}
-use Rattle.aes_block.specs.Aes.{xor4, xor_bytes, word_product, mix_polynomial, inverse_mix_polynomial, sub_byte, inverse_sub_byte}
+use Rattle.aes_block.specs.Aes.{xor4, xor_bytes, word_product, mix_word, inverse_mix_word, sub_byte, inverse_sub_byte}
 use Rattle.aes_block.specs.Words.{word_bytes}
 use Rattle.aes_block.specs.declared.tables.TheConstants.{MIX_FIRST, MIX_SECOND, MIX_THIRD, MIX_FOURTH, INVERSE_MIX_FIRST, INVERSE_MIX_SECOND, INVERSE_MIX_THIRD, INVERSE_MIX_FOURTH}
 use Rattle.aes_block.proofs.States.{byte_lt}
@@ -39,7 +39,7 @@ sum_of_four p q r s p0 p1 p2 p3 q0 q1 q2 q3 r0 r1 r2 r3 s0 s1 s2 s3 ep eq er es 
 -- the entries at four bytes add up to the mixed column of the substituted bytes
 pub mixed_entries : (j k l m : ℕ) → j < 256 → k < 256 → l < 256 → m < 256
     → word_bytes (bit_xor (bit_xor (bit_xor (get_or MIX_FIRST j 0) (get_or MIX_SECOND k 0)) (get_or MIX_THIRD l 0)) (get_or MIX_FOURTH m 0))
-    ≡ word_product mix_polynomial (sub_byte j) (sub_byte k) (sub_byte l) (sub_byte m)
+    ≡ word_product mix_word (sub_byte j) (sub_byte k) (sub_byte l) (sub_byte m)
 mixed_entries j k l m lj lk ll lm =
     sum_of_four (get_or MIX_FIRST j 0) (get_or MIX_SECOND k 0) (get_or MIX_THIRD l 0) (get_or MIX_FOURTH m 0)
     _ _ _ _ _ _ _ _ _ _ _ _ _ _ _ _ (mix_first_at j lj) (mix_second_at k lk) (mix_third_at l ll) (mix_fourth_at m lm)
@@ -47,7 +47,7 @@ mixed_entries j k l m lj lk ll lm =
 -- the same for the inverse
 pub inverse_mixed_entries : (j k l m : ℕ) → j < 256 → k < 256 → l < 256 → m < 256
     → word_bytes (bit_xor (bit_xor (bit_xor (get_or INVERSE_MIX_FIRST j 0) (get_or INVERSE_MIX_SECOND k 0)) (get_or INVERSE_MIX_THIRD l 0)) (get_or INVERSE_MIX_FOURTH m 0))
-    ≡ word_product inverse_mix_polynomial (inverse_sub_byte j) (inverse_sub_byte k) (inverse_sub_byte l) (inverse_sub_byte m)
+    ≡ word_product inverse_mix_word (inverse_sub_byte j) (inverse_sub_byte k) (inverse_sub_byte l) (inverse_sub_byte m)
 inverse_mixed_entries j k l m lj lk ll lm =
     sum_of_four (get_or INVERSE_MIX_FIRST j 0) (get_or INVERSE_MIX_SECOND k 0) (get_or INVERSE_MIX_THIRD l 0) (get_or INVERSE_MIX_FOURTH m 0)
     _ _ _ _ _ _ _ _ _ _ _ _ _ _ _ _ (inverse_mix_first_at j lj) (inverse_mix_second_at k lk) (inverse_mix_third_at l ll) (inverse_mix_fourth_at m lm)

@@ -1,28 +1,30 @@
--- A state as four words, one a column, with row 0 in the highest byte of each.
+-- A state as four numbers of 32 bits, one a column, with row 0 in the highest byte of each. The
+-- words of FIPS 197 (2001, updated 2023), 3.5, as this project holds them.
 use Rattle.std.specs.Prelude.{ℕ, ◌+◌, ◌*◌, List, ◌++◌, slice_index}
 use Rattle.std.specs.Int.{w32, to_be_bytes}
 use Rattle.aes_block.specs.Aes.{word_product}
 
--- the bytes of a word, the highest first
+-- the four bytes of a word, the highest first. This project's own
 abbrev pub word_bytes : ℕ → List ℕ
 word_bytes w = to_be_bytes w32 w
 
--- byte i of a word
+-- byte i of a word, counted from the highest. This project's own
 abbrev pub word_byte : ℕ → ℕ → ℕ
 word_byte w i = slice_index (word_bytes w) i
 
--- the block of four words
+-- the block of a state: the bytes of its four words in order. This project's own
 abbrev pub block_of_words : List ℕ → List ℕ
 block_of_words words =
     word_bytes (slice_index words 0) ++ (word_bytes (slice_index words 1)
     ++ (word_bytes (slice_index words 2) ++ word_bytes (slice_index words 3)))
 
--- the block of the four words from 4 * round on
+-- the key of a round as a block: the bytes of the four words from 4 * round on (5.1.4)
 abbrev pub block_of_round : List ℕ → ℕ → List ℕ
 block_of_round words round =
     word_bytes (slice_index words (4 * round)) ++ (word_bytes (slice_index words (4 * round + 1))
-    ++ (word_bytes (slice_index words (4 * round + 2)) ++ word_bytes (slice_index words (4 * round + 3))))
+    ++ (word_bytes (slice_index words (4 * round + 2))
+    ++ word_bytes (slice_index words (4 * round + 3))))
 
--- a polynomial times the column of a word's bytes
+-- a word, multiplied by the matrix of a fixed word (4.3)
 abbrev pub times_word : List ℕ → ℕ → List ℕ
 times_word a w = word_product a (word_byte w 0) (word_byte w 1) (word_byte w 2) (word_byte w 3)

@@ -1,4 +1,5 @@
-//! A key of 16 bytes with its schedules, which are computed once. Contracts see it as the key.
+//! A key of 16 bytes with its schedules, which are computed once. Contracts see it as the key. The
+//! section numbers are those of FIPS 197 (2001, updated 2023).
 ghost use Rattle.std.specs.Prelude.{◌≡◌, ℕ, ◌+◌, ◌-◌, ◌≤◌, List};
 ghost use Rattle.aes_block.specs.Aes.{cipher, full_rounds, inverse_cipher, inverse_rounds, key_expansion};
 ghost use Rattle.aes_block.specs.Words.{block_of_words};
@@ -9,10 +10,10 @@ use crate::rounds::{
 use crate::schedule::{expand, inverse_keys};
 use std::marker::Model;
 
-/// A key of AES-128 (FIPS 197).
+/// A key of AES-128.
 ///
-/// [`encrypt`](Key128::encrypt) and [`decrypt`](Key128::decrypt) look bytes up in tables, so the time
-/// that they take can tell of the key and the block.
+/// [`encrypt`](Key128::encrypt) and [`decrypt`](Key128::decrypt) look bytes up in tables, so the
+/// time that they take can tell of the key and the block.
 #[derive(Drop)]
 pub struct Key128 {
     // The words of the key's expansion.
@@ -43,7 +44,7 @@ impl Key128 {
         Key128 { words, mixed }
     }
 
-    /// The cipher of `block` (FIPS 197, 5.1).
+    /// The cipher of `block` (5.1).
     pub fn encrypt(&self, block: [u8; 16]) -> [u8; 16]
         ensures cipher { result ≡ cipher self.now block }
         ensures undone { inverse_cipher self.now result ≡ block }
@@ -55,7 +56,7 @@ impl Key128 {
         store(add_key(last_round(ninth), &self.words, 10))
     }
 
-    /// The inverse cipher of `block` (FIPS 197, 5.3), by the equivalent inverse cipher (5.3.5).
+    /// The inverse cipher of `block` (5.3), by the equivalent inverse cipher (5.3.5).
     pub fn decrypt(&self, block: [u8; 16]) -> [u8; 16]
         ensures inverse { result ≡ inverse_cipher self.now block }
         ensures undone { cipher self.now result ≡ block }

@@ -1,7 +1,7 @@
-//! The rounds of the cipher and of its inverse on a state of four words, one a column, with row 0 in
-//! the highest byte. A full round looks up, for each byte, what it gives to its column.
+//! The rounds of the cipher and of its inverse on a state of four words, one a column, with row 0
+//! in the highest byte. A full round looks up, for each byte, what it gives to its column.
 ghost use Rattle.std.specs.Prelude.{◌≡◌, ◌<◌, [], ◌∷◌, length};
-ghost use Rattle.aes_block.specs.Aes.{add_round_key, inverse_mix_columns, inverse_mix_polynomial, inverse_shift_rows, inverse_sub_byte, inverse_sub_bytes, mix_columns, mix_polynomial, shift_rows, sub_byte, sub_bytes, word_product};
+ghost use Rattle.aes_block.specs.Aes.{add_round_key, inverse_mix_columns, inverse_mix_word, inverse_shift_rows, inverse_sub_byte, inverse_sub_bytes, mix_columns, mix_word, shift_rows, sub_byte, sub_bytes, word_product};
 ghost use Rattle.aes_block.specs.Words.{block_of_round, block_of_words, word_byte, word_bytes};
 
 use crate::tables::{
@@ -38,7 +38,7 @@ pub(crate) fn store(state: [u32; 4]) -> [u8; 16]
     ]
 }
 
-// The bytes of a word, the highest first, as indices.
+// The highest byte of a word, as an index. The next three are the bytes below it, in order.
 #[inline(always)]
 pub(crate) fn first_byte(word: u32) -> usize
     ensures { result ≡ word_byte word 0 }
@@ -71,7 +71,8 @@ pub(crate) fn fourth_byte(word: u32) -> usize
 #[inline(always)]
 pub(crate) fn add_key(state: [u32; 4], keys: &[u32; 44], round: usize) -> [u32; 4]
     requires { round < 11 }
-    ensures { block_of_words result ≡ add_round_key (block_of_words state) (block_of_round keys.now round) }
+    ensures { block_of_words result
+        ≡ add_round_key (block_of_words state) (block_of_round keys.now round) }
 {
     let [a, b, c, d] = state;
     [
@@ -82,12 +83,13 @@ pub(crate) fn add_key(state: [u32; 4], keys: &[u32; 44], round: usize) -> [u32; 
     ]
 }
 
-// The mixed column of the substituted bytes in row 0 of `a`, row 1 of `b`, row 2 of `c` and row 3 of
-// `d`.
+// The mixed column of the substituted bytes in row 0 of `a`, row 1 of `b`, row 2 of `c` and row 3
+// of `d`.
 #[inline(always)]
 fn mixed(a: u32, b: u32, c: u32, d: u32) -> u32
-    ensures { word_bytes result ≡ word_product mix_polynomial (sub_byte (word_byte a 0))
-        (sub_byte (word_byte b 1)) (sub_byte (word_byte c 2)) (sub_byte (word_byte d 3)) }
+    ensures { word_bytes result ≡ word_product mix_word
+        (sub_byte (word_byte a 0)) (sub_byte (word_byte b 1))
+        (sub_byte (word_byte c 2)) (sub_byte (word_byte d 3)) }
 {
     MIX_FIRST[first_byte(a)]
         ^ MIX_SECOND[second_byte(b)]
@@ -98,9 +100,9 @@ fn mixed(a: u32, b: u32, c: u32, d: u32) -> u32
 // The same under the inverse substitution and the inverse mix.
 #[inline(always)]
 pub(crate) fn inverse_mixed(a: u32, b: u32, c: u32, d: u32) -> u32
-    ensures { word_bytes result ≡ word_product inverse_mix_polynomial (inverse_sub_byte (word_byte a 0))
-        (inverse_sub_byte (word_byte b 1)) (inverse_sub_byte (word_byte c 2))
-        (inverse_sub_byte (word_byte d 3)) }
+    ensures { word_bytes result ≡ word_product inverse_mix_word
+        (inverse_sub_byte (word_byte a 0)) (inverse_sub_byte (word_byte b 1))
+        (inverse_sub_byte (word_byte c 2)) (inverse_sub_byte (word_byte d 3)) }
 {
     INVERSE_MIX_FIRST[first_byte(a)]
         ^ INVERSE_MIX_SECOND[second_byte(b)]
@@ -124,7 +126,8 @@ pub(crate) fn substituted(a: u32, b: u32, c: u32, d: u32) -> u32
 
 #[inline(always)]
 fn inverse_substituted(a: u32, b: u32, c: u32, d: u32) -> u32
-    ensures { word_bytes result ≡ inverse_sub_byte (word_byte a 0) ∷ inverse_sub_byte (word_byte b 1)
+    ensures { word_bytes result
+        ≡ inverse_sub_byte (word_byte a 0) ∷ inverse_sub_byte (word_byte b 1)
         ∷ inverse_sub_byte (word_byte c 2) ∷ inverse_sub_byte (word_byte d 3) ∷ [] }
 {
     u32::from_be_bytes([
@@ -181,7 +184,8 @@ pub(crate) fn inverse_full_round(state: [u32; 4]) -> [u32; 4]
 // The last round of the inverse, without its key.
 #[inline(always)]
 pub(crate) fn inverse_last_round(state: [u32; 4]) -> [u32; 4]
-    ensures { block_of_words result ≡ inverse_sub_bytes (inverse_shift_rows (block_of_words state)) }
+    ensures { block_of_words result
+        ≡ inverse_sub_bytes (inverse_shift_rows (block_of_words state)) }
 {
     let [a, b, c, d] = state;
     [

@@ -1,6 +1,6 @@
 //! The words of a key's expansion, and the keys of the inverse's full rounds.
 ghost use Rattle.std.specs.Prelude.{◌≡◌, ℕ, ◌<◌, ◌≤◌, [], ◌∷◌, slice_index};
-ghost use Rattle.aes_block.specs.Aes.{expansion_step, inverse_mix_polynomial, key_expansion, rot_word, sub_word, word, xor_bytes};
+ghost use Rattle.aes_block.specs.Aes.{expansion_step, inverse_mix_word, key_expansion, rot_word, sub_word, word, xor_bytes};
 ghost use Rattle.aes_block.specs.Words.{block_of_round, times_word, word_bytes};
 
 use crate::rounds::{
@@ -40,7 +40,8 @@ fn step(i: usize, before: u32) -> u32
 // The words of a key.
 pub(crate) fn expand(key: [u8; 16]) -> [u32; 44]
     ensures given { block_of_round result 0 ≡ key }
-    ensures words { (i : ℕ) → i < 44 → word_bytes (slice_index result i) ≡ word (key_expansion key) i }
+    ensures words { (i : ℕ) → i < 44
+        → word_bytes (slice_index result i) ≡ word (key_expansion key) i }
 {
     let [a, b, c, d] = load(&key);
     let mut words = [0; 44];
@@ -56,7 +57,7 @@ pub(crate) fn expand(key: [u8; 16]) -> [u32; 44]
 
 // The inverse mix of a word, by the tables of the inverse substitution.
 fn inverse_mixed_word(word: u32) -> u32
-    ensures { word_bytes result ≡ times_word inverse_mix_polynomial word }
+    ensures { word_bytes result ≡ times_word inverse_mix_word word }
 {
     let s = substituted(word, word, word, word);
     inverse_mixed(s, s, s, s)
@@ -64,8 +65,8 @@ fn inverse_mixed_word(word: u32) -> u32
 
 // The keys of the inverse's rounds: those of its full rounds are mixed.
 pub(crate) fn inverse_keys(words: &[u32; 44]) -> [u32; 44]
-    ensures { (i : ℕ) → 4 ≤ i → i < 40
-        → word_bytes (slice_index result i) ≡ times_word inverse_mix_polynomial (slice_index words.now i) }
+    ensures { (i : ℕ) → 4 ≤ i → i < 40 → word_bytes (slice_index result i)
+        ≡ times_word inverse_mix_word (slice_index words.now i) }
 {
     let mut keys = *words;
     'mix: for i in 4..40 {

@@ -1,5 +1,6 @@
 //! The tables of the substitution, and of a substitution followed by the product with one byte of a
-//! column. Each entry is proved to be what the standard's definitions give, so no origin is trusted.
+//! column. Each entry is proved to be what the standard's definitions give, so no origin is
+//! trusted.
 
 // The substitution of a byte.
 pub(crate) static SUB_BYTE: [u8; 256] = [

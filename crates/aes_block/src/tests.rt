@@ -1,6 +1,6 @@
 use crate::Key128;
 
-// FIPS 197, appendix C.1.
+// FIPS 197 of 2001, appendix C.1.
 #[test]
 fn the_standards_block_is_enciphered_and_deciphered(rt: HostRuntime) {
     let key = Key128::new(0x000102030405060708090a0b0c0d0e0f_u128.to_be_bytes());

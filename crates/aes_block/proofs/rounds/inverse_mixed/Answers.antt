@@ -1,9 +1,9 @@
 use Rattle.std.proofs.Common.{◌∙◌, arith}
-use Rattle.aes_block.specs.Aes.{inverse_sub_byte, inverse_mix_polynomial, word_product}
+use Rattle.aes_block.specs.Aes.{inverse_sub_byte, inverse_mix_word, word_product}
 use Rattle.aes_block.proofs.WordLemmas.{inverse_mixed_entries}
 use Rattle.aes_block.proofs.rounds.inverse_mixed.Goals as goal
 
 pub returns : goal.returns
 returns c =
     inverse_mixed_entries c.first_byte.result c.second_byte.result c.third_byte.result c.fourth_byte.result (omega arith) (omega arith) (omega arith) (omega arith)
-    ∙ (λ i. word_product inverse_mix_polynomial (inverse_sub_byte (c.first_byte.ensures i)) (inverse_sub_byte (c.second_byte.ensures i)) (inverse_sub_byte (c.third_byte.ensures i)) (inverse_sub_byte (c.fourth_byte.ensures i)))
+    ∙ (λ i. word_product inverse_mix_word (inverse_sub_byte (c.first_byte.ensures i)) (inverse_sub_byte (c.second_byte.ensures i)) (inverse_sub_byte (c.third_byte.ensures i)) (inverse_sub_byte (c.fourth_byte.ensures i)))
