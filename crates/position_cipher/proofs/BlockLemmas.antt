@@ -7,7 +7,7 @@ use Rattle.std.proofs.lemmas.Slice.{take-put_mid, drop-put_mid}
 use borrow.Rule.Slice.PartMut.{put_mid}
 use Rattle.aes_block.specs.Aes.{xor_bytes}
 use Rattle.aes_block.proofs.States.{length-xor_bytes}
-use Rattle.position_cipher.specs.Masked.{each_block}
+use Rattle.position_cipher.specs.Fragments.{each_block}
 
 pub get_or-xor_bytes : (xs ys : List ℕ) (k : ℕ) → length xs ≡ length ys → k < length xs → get_or (xor_bytes xs ys) k 0 ≡ bit_xor (get_or xs k 0) (get_or ys k 0)
 unfolding xor_bytes

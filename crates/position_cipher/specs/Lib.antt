@@ -1,1 +1,1 @@
-pub mod Masked
+pub mod Fragments

@@ -1,7 +1,7 @@
 //! The mask of a block: its number over the whole stream, so that no two blocks have the same one.
 ghost use Rattle.std.specs.Prelude.{◌≡◌, length};
 ghost use Rattle.aes_block.specs.Aes.{xor_bytes};
-ghost use Rattle.position_cipher.specs.Masked.{block_mask};
+ghost use Rattle.position_cipher.specs.Fragments.{block_mask};
 
 /// The number of a block in 16 bytes, the highest first.
 pub fn mask(number: u64) -> [u8; 16]

@@ -1,6 +1,6 @@
 //! A fragment is 16 blocks of 16 bytes, whose numbers go on from those of the fragments before it.
 ghost use Rattle.std.specs.Prelude.{◌≡◌, ◌+◌, ◌*◌, ◌<◌, length};
-ghost use Rattle.position_cipher.specs.Masked.{locked, masked_block, unlocked, unmasked_block};
+ghost use Rattle.position_cipher.specs.Fragments.{locked_block, locked_fragment, unlocked_block, unlocked_fragment};
 
 use crate::block_mask::masked;
 use aes_block::Key128;
@@ -20,8 +20,8 @@ fn number_of(index: u32, k: usize) -> u64
 // Enciphers the block of a number.
 fn lock_block(key: &Key128, number: u64, block: &mut [u8])
     requires { length block.old ≡ 16 }
-    ensures locked { block.new ≡ masked_block key.now number block.old }
-    ensures undone { unmasked_block key.now number block.new ≡ block.old }
+    ensures locked { block.new ≡ locked_block key.now number block.old }
+    ensures undone { unlocked_block key.now number block.new ≡ block.old }
 {
     block.copy_from_slice(&key.encrypt(masked(block, number)));
 }
@@ -29,8 +29,8 @@ fn lock_block(key: &Key128, number: u64, block: &mut [u8])
 // Deciphers the block of a number.
 fn unlock_block(key: &Key128, number: u64, block: &mut [u8])
     requires { length block.old ≡ 16 }
-    ensures unlocked { block.new ≡ unmasked_block key.now number block.old }
-    ensures undone { masked_block key.now number block.new ≡ block.old }
+    ensures unlocked { block.new ≡ unlocked_block key.now number block.old }
+    ensures undone { locked_block key.now number block.new ≡ block.old }
 {
     let mut cipher = [0; BLOCK_LEN];
     cipher.copy_from_slice(block);
@@ -40,8 +40,8 @@ fn unlock_block(key: &Key128, number: u64, block: &mut [u8])
 
 /// Enciphers the fragment of an index, from 0, in place.
 pub fn lock_fragment(key: &Key128, index: u32, bytes: &mut [u8; 256])
-    ensures locked { bytes.new ≡ locked key.now index bytes.old }
-    ensures undone { unlocked key.now index bytes.new ≡ bytes.old }
+    ensures locked { bytes.new ≡ locked_fragment key.now index bytes.old }
+    ensures undone { unlocked_fragment key.now index bytes.new ≡ bytes.old }
 {
     'each: for k in 0..BLOCKS {
         lock_block(
@@ -54,8 +54,8 @@ pub fn lock_fragment(key: &Key128, index: u32, bytes: &mut [u8; 256])
 
 /// Deciphers the fragment of an index, from 0, in place.
 pub fn unlock_fragment(key: &Key128, index: u32, bytes: &mut [u8; 256])
-    ensures unlocked { bytes.new ≡ unlocked key.now index bytes.old }
-    ensures undone { locked key.now index bytes.new ≡ bytes.old }
+    ensures unlocked { bytes.new ≡ unlocked_fragment key.now index bytes.old }
+    ensures undone { locked_fragment key.now index bytes.new ≡ bytes.old }
 {
     'each: for k in 0..BLOCKS {
         unlock_block(

@@ -1,5 +1,5 @@
 use Rattle.std.proofs.Common.{arith}
-use Rattle.position_cipher.specs.Masked.{block_mask}
+use Rattle.position_cipher.specs.Fragments.{block_mask}
 use Rattle.position_cipher.proofs.BlockLemmas.{xor_bytes_from_each}
 use Rattle.position_cipher.proofs.block_mask.masked.Goals as goal
 

@@ -1,5 +1,5 @@
 use Rattle.std.proofs.Common.{◌≡◌, ℕ, ◌<◌, ◌≤◌, length, get_or, bit_xor}
-use Rattle.position_cipher.specs.Masked.{block_mask}
+use Rattle.position_cipher.specs.Fragments.{block_mask}
 use Rattle.position_cipher.proofs.block_mask.masked.Given as goal
 
 abbrev pub invariant-bytes : goal.invariant-bytes

@@ -1,12 +1,12 @@
 use Rattle.std.proofs.Common.{◌≡◌, ℕ, ◌+◌, ◌-◌, ◌*◌, List, length, take, drop, ap, sym, ◌∙◌, arith}
 use Rattle.std.proofs.lemmas.List.{length-drop, length-take-le}
-use Rattle.position_cipher.specs.Masked.{masked_block, unmasked_block}
+use Rattle.position_cipher.specs.Fragments.{locked_block, unlocked_block}
 use Rattle.position_cipher.proofs.BlockLemmas.{AreDone-all, AreDone-more, AreDone-none}
 use Rattle.position_cipher.proofs.fragment.lock_fragment.Goals as goal
 
 pub each-init : goal.each-init
 each-init c =
-    AreDone-none (masked_block c.args.key.now) (unmasked_block c.args.key.now) (16 * c.args.index) c.args.bytes.now c.told-bytes
+    AreDone-none (locked_block c.args.key.now) (unlocked_block c.args.key.now) (16 * c.args.index) c.args.bytes.now c.told-bytes
 
 pub each-preserved : goal.each-preserved
 each-preserved c =
@@ -17,13 +17,13 @@ each-preserved c =
     let fits : length piece ≡ w = length-take-le w (drop (16 * k) c.each.bytes) (omega (arith, length-drop (16 * k) c.each.bytes, c.each.invariant.count)) in
     let size : length c.lock_block.new.block ≡ 16 = omega (arith, c.lock_block.auto.block, fits) in
     let number : c.number_of.result ≡ 16 * c.args.index + k = c.number_of.ensures in
-    AreDone-more (masked_block key) (unmasked_block key) (16 * c.args.index) k w
+    AreDone-more (locked_block key) (unlocked_block key) (16 * c.args.index) k w
     c.args.bytes.now c.each.bytes c.lock_block.new.block (omega arith) (omega arith) c.told-bytes size c.each.invariant
-    (c.lock_block.ensures.locked ∙ ap (λ (n : ℕ). masked_block key n piece) number)
-    (sym (ap (λ (n : ℕ). unmasked_block key n c.lock_block.new.block) number) ∙ c.lock_block.ensures.undone)
+    (c.lock_block.ensures.locked ∙ ap (λ (n : ℕ). locked_block key n piece) number)
+    (sym (ap (λ (n : ℕ). unlocked_block key n c.lock_block.new.block) number) ∙ c.lock_block.ensures.undone)
 
 pub returns : goal.returns
 returns c =
     let done : c.each.k ≡ 16 = omega (arith, c.each.auto.k-end) in
-    let both = AreDone-all (masked_block c.args.key.now) (unmasked_block c.args.key.now) (16 * c.args.index) c.each.k c.args.bytes.now c.each.bytes done c.told-bytes c.each.invariant in
+    let both = AreDone-all (locked_block c.args.key.now) (unlocked_block c.args.key.now) (16 * c.args.index) c.each.k c.args.bytes.now c.each.bytes done c.told-bytes c.each.invariant in
     record { locked = both.0; undone = both.1 }

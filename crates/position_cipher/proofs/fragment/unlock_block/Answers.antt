@@ -1,11 +1,11 @@
 use Rattle.std.proofs.Common.{◌≡◌, List, ℕ, length, ap, ◌∙◌}
 use Rattle.aes_block.specs.Aes.{cipher, inverse_cipher, xor_bytes}
 use Rattle.aes_block.proofs.States.{xor_bytes-xor_bytes}
-use Rattle.position_cipher.specs.Masked.{block_mask, masked_block, unmasked_block}
+use Rattle.position_cipher.specs.Fragments.{block_mask, locked_block, unlocked_block}
 use Rattle.position_cipher.proofs.fragment.unlock_block.Goals as goal
 
 pub returns-clause-unlocked : goal.returns-clause-unlocked
-unfolding unmasked_block
+unfolding unlocked_block
 returns-clause-unlocked c =
     let mask = block_mask c.args.number in
     c.copy_from_slice-3.ensures.after ∙ c.masked.ensures
@@ -13,7 +13,7 @@ returns-clause-unlocked c =
     ∙ ap (inverse_cipher c.args.key.now) c.copy_from_slice.ensures.after)
 
 pub returns-clause-undone : goal.returns-clause-undone
-unfolding masked_block
+unfolding locked_block
 returns-clause-undone c =
     let mask = block_mask c.args.number in
     let plain = c.copy_from_slice-2.new.self in
