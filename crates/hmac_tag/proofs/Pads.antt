@@ -5,7 +5,7 @@ use Rattle.std.proofs.lemmas.List.Edits.{map_over_more}
 use Rattle.std.proofs.lemmas.Grind.{common_steps}
 use Rattle.std.proofs.lemmas.Bool.Decides.{nat_tests}
 use Rattle.sha2.specs.Sha256.{sha256}
-use Rattle.hmac_tag.specs.Hmac.{block_key, exclusive_or, hmac, zero_filled}
+use Rattle.hmac_tag.specs.Hmac.{block_key, exclusive_or, hmac, zero_filled_bytes}
 
 -- the exclusive or with one byte over and over is that of each byte with it
 exclusive_or-repeated : (xs : List ℕ) (b : ℕ) → exclusive_or xs (replicate (length xs) b) ≡ map (λ x. bit_xor x b) xs
@@ -36,12 +36,12 @@ exclusive_or-whole xs ys i b n h e =
     grind (arith, common_steps)
 
 -- a key of one block at most is filled with zeros, and with none if it is a block long
-pub block_key-short : (key : List ℕ) → length key ≤ 64 → block_key key ≡ zero_filled key
+pub block_key-short : (key : List ℕ) → length key ≤ 64 → block_key key ≡ zero_filled_bytes key
 unfolding block_key
 block_key-short key h = grind (arith, nat_tests, common_steps)
 
 -- a longer key gives way to its digest
-pub block_key-long : (key : List ℕ) → 64 < length key → block_key key ≡ zero_filled (sha256 key)
+pub block_key-long : (key : List ℕ) → 64 < length key → block_key key ≡ zero_filled_bytes (sha256 key)
 unfolding block_key
 block_key-long key h = grind (arith, nat_tests, common_steps)
 

@@ -4,7 +4,7 @@
 
 ghost use Rattle.std.specs.Prelude.{◌≡◌, ◌≤◌, length, replicate, ◌++◌};
 ghost use Rattle.sha2.specs.Sha256.{sha256};
-ghost use Rattle.hmac_tag.specs.Hmac.{block_key, exclusive_or, hmac, zero_filled};
+ghost use Rattle.hmac_tag.specs.Hmac.{block_key, exclusive_or, hmac, zero_filled_bytes};
 
 use sha2::{Digest, Sha256};
 
@@ -46,7 +46,7 @@ fn block_of_key(key: &[u8]) -> [u8; 64]
 /// `bytes`, with zeros after them up to a block.
 fn zero_filled_block(bytes: &[u8]) -> [u8; 64]
     requires { length bytes.now ≤ 64 }
-    ensures { result ≡ zero_filled bytes.now }
+    ensures { result ≡ zero_filled_bytes bytes.now }
 {
     let mut block = [0; BLOCK_LEN];
     block[..bytes.len()].copy_from_slice(bytes);
