@@ -1,6 +1,7 @@
 -- How the writes of one text join to one, whole or cut off where one fails.
-use Rattle.std.proofs.Common.{◌≡◌, List, ℕ, [], ◌++◌, ◌≤◌, length, take, Option, Some, None, append_assoc, append-nil, length-append, ap, sym, ◌∙◌, refl, arith}
-use Rattle.std.proofs.lemmas.List.{take-append-le, length-take}
+use Rattle.std.proofs.Common.{◌≡◌, List, ℕ, [], ◌+◌, ◌++◌, ◌≤◌, length, take, Option, Some, None, append_assoc, append-nil, length-append, ap, sym, ◌∙◌, refl, arith}
+use Rattle.std.proofs.lemmas.List.{take-append-le, length-take, length-take-le}
+use Rattle.std.proofs.Math.Seq.{take-append-add}
 use Rattle.std.specs.Io.KnownBytes.{Appends}
 use Rattle.acl_outside.specs.Outside.{AppendsPart, MissesAtLeast}
 
@@ -56,3 +57,9 @@ Leaves-missing (Some a) (Some b) None missing piece rest more all cut way lack =
 Leaves-missing (Some a) (Some b) (Some c) None piece rest more all cut way lack = tt
 Leaves-missing (Some a) (Some b) (Some c) (Some m) piece rest more all cut way lack =
     omega (arith, lack, length-append piece more, length-append b rest, length-append a all, ap length way.1, ap length cut)
+
+-- a front of the piece that was appended is a part of it
+pub AppendsPart-front : (a piece : List ℕ) (n : ℕ) → n ≤ length piece → AppendsPart (Some a) (Some (a ++ take n piece)) piece
+AppendsPart-front a piece n within =
+    let front : length (a ++ take n piece) ≡ length a + n = length-append a (take n piece) ∙ ap (λ k. length a + k) (length-take-le n piece within) in
+    (omega (arith, front), ap (λ k. take k (a ++ piece)) front ∙ take-append-add a piece n)

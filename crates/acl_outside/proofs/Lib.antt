@@ -1,2 +1,4 @@
 pub mod Consuming
 pub mod Leaving
+pub mod Remaining
+pub mod Taking

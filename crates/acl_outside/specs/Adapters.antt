@@ -1,5 +1,18 @@
 -- What a caller sees of the adapters over the standard library. This project's own.
-use Rattle.std.specs.Prelude.{ℕ, Bool, List, Option}
+use Rattle.std.specs.Prelude.{ℕ, Bool, List, Option, None}
+use Rattle.acl_outside.specs.Outside.{StoreRead}
+
+-- the bytes of an object that doesn't tell them
+abbrev pub unknown_bytes : Option (List ℕ)
+unknown_bytes = None
+
+-- the number of bytes missed, of an object that doesn't tell it
+abbrev pub unknown_count : Option ℕ
+unknown_count = None
+
+-- the good reads of an object that doesn't tell them
+abbrev pub unknown_reads : Option (List StoreRead)
+unknown_reads = None
 
 -- a source over a reader: whether there is a reader, what that reader tells of its bytes to come, and
 -- how many reads have failed

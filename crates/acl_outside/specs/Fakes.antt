@@ -12,11 +12,12 @@ pub record Supply : Type 0 where
 
 -- a sink in memory: the bytes taken, how many bytes it has room for in all, the numbers of the writes
 -- that fail, the number of the next write, from 0, how many bytes the last failed write did not take,
--- and how many writes have failed
+-- the bytes taken up to the last good write of an empty piece, and how many writes have failed
 pub record Tray : Type 0 where
   pub written : List ℕ
   pub room : ℕ
   pub fails : List ℕ
   pub calls : ℕ
   pub missed : ℕ
+  pub settled : List ℕ
   pub faults : ℕ

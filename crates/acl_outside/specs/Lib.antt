@@ -1,3 +1,4 @@
 pub mod Adapters
 pub mod Fakes
 pub mod Outside
+pub mod Writing

@@ -1,6 +1,6 @@
 -- The words that the contracts of sources, sinks and stores share. What their members tell is an
 -- `Option`: None claims nothing, and what is told stays told. This project's own.
-use Rattle.std.specs.Prelude.{◌≡◌, ℕ, ◌+◌, ◌-◌, ◌^◌, ◌<◌, ◌≤◌, ◌⊎◌, ◌++◌, List, [], ◌∷◌, Option, Some, None, length, take}
+use Rattle.std.specs.Prelude.{◌≡◌, ℕ, ◌+◌, ◌-◌, ◌^◌, ◌<◌, ◌≤◌, ◌⊎◌, ◌++◌, Bool, true, false, List, [], ◌∷◌, Option, Some, None, length, take, drop}
 
 -- the count is greater than at the start of the call, or stands at the last value of u64
 abbrev pub Rose : ℕ → ℕ → Type 0
@@ -10,12 +10,34 @@ Rose old new = (old < new) ⊎ (new ≡ 2 ^ 64 - 1)
 abbrev pub NotFallen : ℕ → ℕ → Type 0
 NotFallen old new = old ≤ new
 
+-- the count is as it was at the start of the call
+abbrev pub SameCount : ℕ → ℕ → Type 0
+SameCount old new = new ≡ old
+
+-- where the object's fault is answered its count rose, and elsewhere it is as it was
+abbrev pub CountsWhere : Bool → ℕ → ℕ → Type 0
+CountsWhere true old new = Rose old new
+CountsWhere false old new = new ≡ old
+
+-- where the bytes to come are told: at most so many of them were taken, from their front
+abbrev pub TakesAtMost : ℕ → Option (List ℕ) → Option (List ℕ) → Type 0
+TakesAtMost most None new = Unit {0}
+TakesAtMost most (Some before) None = ⊥
+TakesAtMost most (Some before) (Some after) =
+    (length before ≤ length after + most) × (after ≡ drop (length before - length after) before)
+
 -- the bytes grew by a front part of the piece
 abbrev pub AppendsPart : Option (List ℕ) → Option (List ℕ) → List ℕ → Type 0
 AppendsPart None new piece = Unit {0}
 AppendsPart (Some before) None piece = ⊥
 AppendsPart (Some before) (Some after) piece =
     (length before ≤ length after) × (take (length after) (before ++ piece) ≡ after)
+
+-- where both are told: all bytes taken are settled, and none is held back
+abbrev pub AreAllSettled : Option (List ℕ) → Option (List ℕ) → Type 0
+AreAllSettled None taken = Unit {0}
+AreAllSettled (Some settled) None = Unit {0}
+AreAllSettled (Some settled) (Some taken) = settled ≡ taken
 
 -- where both are told: with the bytes that are missing the piece would be whole
 abbrev pub Misses : Option (List ℕ) → Option (List ℕ) → Option ℕ → List ℕ → Type 0

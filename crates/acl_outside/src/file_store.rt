@@ -1,7 +1,8 @@
 //! A store over a file. It adds a count to each error, and loops over short reads.
-ghost use Rattle.std.specs.Prelude.{◌≡◌, ◌+◌, ◌-◌, ◌^◌, None, is_some, min, length, take, not, IsTrue, IfOk, OnOk, OnErr, IsErr};
+ghost use Rattle.std.specs.Prelude.{◌≡◌, ◌+◌, ◌-◌, ◌^◌, is_some, min, length, take, not, IsTrue, IfOk, OnOk, OnErr, IsErr};
 ghost use Rattle.std.specs.Io.{ReadsAtMost};
-ghost use Rattle.acl_outside.specs.Outside.{Rose, NotFallen, StoreRead, Serves, KeepsServed};
+ghost use Rattle.acl_outside.specs.Adapters.{unknown_bytes, unknown_reads};
+ghost use Rattle.acl_outside.specs.Outside.{Rose, NotFallen, Serves, KeepsServed};
 
 use crate::{Failed, Store};
 use std::fs::File;
@@ -36,24 +37,26 @@ impl FileStore {
 }
 
 impl Store for FileStore {
-    ghost holds = { λ _. None };
+    ghost holds = { λ _. unknown_bytes };
 
-    ghost served = { λ _. None };
+    ghost served = { λ _. unknown_reads };
 
     ghost faults = { λ s. s.faults };
 
     fn read_at(&mut self, at: u64, into: &mut [u8]) -> Result<usize, Failed>
         ensures within { ReadsAtMost result into.new }
-        ensures served_ok { IfOk result (λ n. Serves None None
+        ensures served_ok { IfOk result (λ n. Serves unknown_reads unknown_reads
             (record { at = at; asked = length into.new; bytes = take n into.new })) }
-        ensures served_err { OnErr result (KeepsServed None None) }
+        ensures served_err { OnErr result (KeepsServed unknown_reads unknown_reads) }
+        ensures telling { is_some unknown_reads ≡ is_some unknown_reads }
         ensures cause { OnErr result (Rose self.old.faults self.new.faults) }
         ensures never_falls { NotFallen self.old.faults self.new.faults }
+        ensures quiet { OnOk result (self.new.faults ≡ self.old.faults) }
 
         ensures without { IsTrue (not self.old.is_there) → IsErr result }
         ensures same_file { self.new.is_there ≡ self.old.is_there }
-        ensures no_fault { OnOk result (self.new.faults ≡ self.old.faults) }
-        ensures one_fault { OnErr result (self.new.faults ≡ min (self.old.faults + 1) (2 ^ 64 - 1)) }
+        ensures one_fault { OnErr result
+            (self.new.faults ≡ min (self.old.faults + 1) (2 ^ 64 - 1)) }
     {
         if let Some(file) = &self.inner {
             if let Ok(count) = read_full_at(file, at, into) {

@@ -18,6 +18,7 @@ mod store;
 mod sure_source;
 mod sure_store;
 mod writer_sink;
+mod writing;
 
 pub use failed::Failed;
 pub use file_store::FileStore;
@@ -32,6 +33,7 @@ pub use store::Store;
 pub use sure_source::SureSource;
 pub use sure_store::SureStore;
 pub use writer_sink::WriterSink;
+pub use writing::{write_piece, write_pieces};
 
 #[cfg(test)]
 mod tests;

@@ -1,8 +1,8 @@
 //! A sink in memory that has a fixed room, and fails at chosen calls. It takes all its memory when
-//! it is made.
-ghost use Rattle.std.specs.Prelude.{◌≡◌, ◌+◌, ◌-◌, ◌^◌, ◌<◌, ◌⊎◌, ◌↔◌, ◌++◌, [], Some, min, length, take, Contains, IfOk, OnOk, OnErr, IsErr};
+//! it is made. As a writer with a buffer does, it settles its bytes only where it is asked to.
+ghost use Rattle.std.specs.Prelude.{◌≡◌, ◌+◌, ◌-◌, ◌^◌, ◌<◌, ◌⊎◌, ◌↔◌, ◌++◌, [], Some, is_some, min, length, take, Contains, IfOk, OnOk, OnErr, IsErr};
 ghost use Rattle.std.specs.Io.KnownBytes.{Appends};
-ghost use Rattle.acl_outside.specs.Outside.{Rose, NotFallen, AppendsPart, Misses};
+ghost use Rattle.acl_outside.specs.Outside.{Rose, NotFallen, AppendsPart, AreAllSettled, Misses};
 
 use crate::{Failed, NoMemory, Sink};
 use std::alloc::Global;
@@ -16,11 +16,12 @@ pub struct MemSink {
     fails: Vec<u64>,
     calls: u64,
     missed: usize,
+    settled: usize,
     faults: u64,
 }
 
 impl Model for MemSink {
-    ghost use Rattle.std.specs.Prelude.{◌≤◌, vec_len, vec_capacity};
+    ghost use Rattle.std.specs.Prelude.{◌≤◌, take, vec_len, vec_capacity};
     ghost use Rattle.acl_outside.specs.Fakes.{Tray};
 
     ghost Value = { Tray };
@@ -31,10 +32,12 @@ impl Model for MemSink {
       fails = s.fails.items;
       calls = s.calls;
       missed = s.missed;
+      settled = take s.settled s.bytes.items;
       faults = s.faults;
     } };
 
-    ghost invariant = { λ s. (vec_len s.bytes ≤ s.room) × (s.room ≤ vec_capacity s.bytes) };
+    ghost invariant = { λ s. (vec_len s.bytes ≤ s.room) × (s.room ≤ vec_capacity s.bytes)
+        × (s.settled ≤ vec_len s.bytes) };
 }
 
 impl MemSink {
@@ -45,6 +48,7 @@ impl MemSink {
         ensures fails { IfOk result (λ sink. sink.fails ≡ fails.items) }
         ensures calls { IfOk result (λ sink. sink.calls ≡ 0) }
         ensures missed { IfOk result (λ sink. sink.missed ≡ 0) }
+        ensures settled { IfOk result (λ sink. sink.settled ≡ []) }
         ensures faults { IfOk result (λ sink. sink.faults ≡ 0) }
     {
         let bytes = Vec::with_capacity(alloc, room)?;
@@ -54,6 +58,7 @@ impl MemSink {
             fails,
             calls: 0,
             missed: 0,
+            settled: 0,
             faults: 0,
         })
     }
@@ -64,6 +69,13 @@ impl MemSink {
     {
         self.bytes.as_slice()
     }
+
+    /// The bytes taken up to the last good write of an empty piece.
+    pub fn settled(&self) -> &[u8]
+        ensures { result.now ≡ self.now.settled }
+    {
+        &self.bytes[..self.settled]
+    }
 }
 
 impl Sink for MemSink {
@@ -71,27 +83,44 @@ impl Sink for MemSink {
 
     ghost missed = { λ s. Some s.missed };
 
+    ghost settled = { λ s. Some s.settled };
+
     ghost faults = { λ s. s.faults };
 
     fn write(&mut self, piece: &[u8]) -> Result<(), Failed>
-        ensures whole { OnOk result (Appends (Some self.old.written) (Some self.new.written) piece.now) }
-        ensures part { OnErr result (AppendsPart (Some self.old.written) (Some self.new.written) piece.now) }
-        ensures missed { OnErr result (Misses (Some self.old.written) (Some self.new.written) (Some self.new.missed) piece.now) }
+        ensures whole { OnOk result
+            (Appends (Some self.old.written) (Some self.new.written) piece.now) }
+        ensures part { OnErr result
+            (AppendsPart (Some self.old.written) (Some self.new.written) piece.now) }
+        ensures missed { OnErr result
+            (Misses (Some self.old.written) (Some self.new.written) (Some self.new.missed)
+            piece.now) }
+        ensures settled { OnOk result
+            (piece.now ≡ [] → AreAllSettled (Some self.new.settled) (Some self.new.written)) }
+        ensures same_missed { OnOk result (Some self.new.missed ≡ Some self.old.missed) }
+        ensures telling { is_some (Some self.new.written) ≡ is_some (Some self.old.written) }
+        ensures tells_missed { is_some (Some self.new.missed) ≡ is_some (Some self.old.missed) }
+        ensures tells_settled { is_some (Some self.new.settled) ≡ is_some (Some self.old.settled) }
         ensures cause { OnErr result (Rose self.old.faults self.new.faults) }
         ensures never_falls { NotFallen self.old.faults self.new.faults }
+        ensures quiet { OnOk result (self.new.faults ≡ self.old.faults) }
 
         // Which calls fail, and what those have taken.
         ensures fails { IsErr result ↔
-            (Contains self.old.fails self.old.calls ⊎ (self.old.room < length self.old.written + length piece.now)) }
-        ensures refused { Contains self.old.fails self.old.calls → self.new.written ≡ self.old.written }
+            (Contains self.old.fails self.old.calls
+            ⊎ (self.old.room < length self.old.written + length piece.now)) }
+        ensures refused { Contains self.old.fails self.old.calls →
+            self.new.written ≡ self.old.written }
         ensures fits { ¬ Contains self.old.fails self.old.calls →
-            self.new.written ≡ self.old.written ++ take (self.old.room - length self.old.written) piece.now }
+            self.new.written
+            ≡ self.old.written ++ take (self.old.room - length self.old.written) piece.now }
         ensures same_room { self.new.room ≡ self.old.room }
         ensures same_fails { self.new.fails ≡ self.old.fails }
         ensures next_call { self.new.calls ≡ min (self.old.calls + 1) (2 ^ 64 - 1) }
-        ensures same_missed { OnOk result (self.new.missed ≡ self.old.missed) }
-        ensures no_fault { OnOk result (self.new.faults ≡ self.old.faults) }
-        ensures one_fault { OnErr result (self.new.faults ≡ min (self.old.faults + 1) (2 ^ 64 - 1)) }
+        ensures same_settled { 0 < length piece.now → self.new.settled ≡ self.old.settled }
+        ensures none_settled { OnErr result (self.new.settled ≡ self.old.settled) }
+        ensures one_fault { OnErr result
+            (self.new.faults ≡ min (self.old.faults + 1) (2 ^ 64 - 1)) }
     {
         let number = self.calls;
         self.calls = number.saturating_add(1);
@@ -106,6 +135,9 @@ impl Sink for MemSink {
             self.missed = piece.len() - count;
             self.faults = self.faults.saturating_add(1);
             return Err(Failed);
+        }
+        if piece.is_empty() {
+            self.settled = self.bytes.len();
         }
         Ok(())
     }

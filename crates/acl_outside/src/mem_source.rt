@@ -1,5 +1,5 @@
 //! A source in memory that fails at chosen calls. A failed call takes no byte.
-ghost use Rattle.std.specs.Prelude.{◌≡◌, ◌+◌, ◌-◌, ◌^◌, ◌<◌, ◌≤◌, ◌↔◌, ◌++◌, Some, Ok, min, length, take, drop, Contains, IfOk, OnErr, OnOk, IsErr, vec_len};
+ghost use Rattle.std.specs.Prelude.{◌≡◌, ◌+◌, ◌-◌, ◌^◌, ◌<◌, ◌≤◌, ◌↔◌, ◌++◌, Some, Ok, is_some, min, length, take, drop, Contains, IfOk, OnErr, OnOk, IsErr, vec_len};
 ghost use Rattle.std.specs.Io.{ReadsAtMost};
 ghost use Rattle.std.specs.Io.KnownBytes.{Consumes, IsAtEnd, Keeps};
 ghost use Rattle.acl_outside.specs.Outside.{Rose, NotFallen};
@@ -65,11 +65,15 @@ impl Source for MemSource {
 
     fn read(&mut self, into: &mut [u8]) -> Result<usize, Failed>
         ensures within { ReadsAtMost result into.new }
-        ensures good { IfOk result (λ n. Consumes (Some self.old.left) (Some self.new.left) (take n into.new)) }
-        ensures end { IfOk result (λ n. n ≡ 0 → 0 < length into.old → IsAtEnd (Some self.new.left)) }
+        ensures good { IfOk result
+            (λ n. Consumes (Some self.old.left) (Some self.new.left) (take n into.new)) }
+        ensures end { IfOk result
+            (λ n. n ≡ 0 → 0 < length into.old → IsAtEnd (Some self.new.left)) }
         ensures kept { OnErr result (Keeps (Some self.old.left) (Some self.new.left)) }
+        ensures telling { is_some (Some self.new.left) ≡ is_some (Some self.old.left) }
         ensures cause { OnErr result (Rose self.old.faults self.new.faults) }
         ensures never_falls { NotFallen self.old.faults self.new.faults }
+        ensures quiet { OnOk result (self.new.faults ≡ self.old.faults) }
 
         // Which calls fail, and how much the others give.
         ensures fails { IsErr result ↔ Contains self.old.fails self.old.calls }
@@ -78,8 +82,8 @@ impl Source for MemSource {
         ensures same_piece { self.new.piece ≡ self.old.piece }
         ensures same_fails { self.new.fails ≡ self.old.fails }
         ensures next_call { self.new.calls ≡ min (self.old.calls + 1) (2 ^ 64 - 1) }
-        ensures no_fault { OnOk result (self.new.faults ≡ self.old.faults) }
-        ensures one_fault { OnErr result (self.new.faults ≡ min (self.old.faults + 1) (2 ^ 64 - 1)) }
+        ensures one_fault { OnErr result
+            (self.new.faults ≡ min (self.old.faults + 1) (2 ^ 64 - 1)) }
     {
         let number = self.calls;
         self.calls = number.saturating_add(1);

@@ -1,9 +1,10 @@
 //! A source over a reader of the standard library. It adds a count to each error, and loops over short
 //! reads.
-ghost use Rattle.std.specs.Prelude.{◌≡◌, ◌+◌, ◌-◌, ◌^◌, ◌<◌, None, is_some, min, length, take, not, IsTrue, IfOk, OnOk, OnErr, IsErr};
+ghost use Rattle.std.specs.Prelude.{◌≡◌, ◌+◌, ◌-◌, ◌^◌, ◌<◌, is_some, min, length, take, not, IsTrue, IfOk, OnOk, OnErr, IsErr};
 ghost use Rattle.std.specs.Option.{option_and_then};
 ghost use Rattle.std.specs.Io.{ReadsAtMost};
 ghost use Rattle.std.specs.Io.KnownBytes.{Consumes, IsAtEnd, Keeps};
+ghost use Rattle.acl_outside.specs.Adapters.{unknown_bytes};
 ghost use Rattle.acl_outside.specs.Outside.{Rose, NotFallen};
 
 use crate::{Failed, Source};
@@ -43,25 +44,28 @@ impl<R: Read> ReaderSource<R> {
 }
 
 impl<R: Read> Source for ReaderSource<R> {
-    ghost left = { λ _. None };
+    ghost left = { λ _. unknown_bytes };
 
     ghost faults = { λ s. s.faults };
 
     fn read(&mut self, into: &mut [u8]) -> Result<usize, Failed>
         ensures within { ReadsAtMost result into.new }
-        ensures good { IfOk result (λ n. Consumes None None (take n into.new)) }
-        ensures end { IfOk result (λ n. n ≡ 0 → 0 < length into.old → IsAtEnd None) }
-        ensures kept { OnErr result (Keeps None None) }
+        ensures good { IfOk result (λ n. Consumes unknown_bytes unknown_bytes (take n into.new)) }
+        ensures end { IfOk result (λ n. n ≡ 0 → 0 < length into.old → IsAtEnd unknown_bytes) }
+        ensures kept { OnErr result (Keeps unknown_bytes unknown_bytes) }
+        ensures telling { is_some unknown_bytes ≡ is_some unknown_bytes }
         ensures cause { OnErr result (Rose self.old.faults self.new.faults) }
         ensures never_falls { NotFallen self.old.faults self.new.faults }
+        ensures quiet { OnOk result (self.new.faults ≡ self.old.faults) }
 
         // What comes through from the reader.
-        ensures through { IfOk result (λ n. Consumes self.old.to_come self.new.to_come (take n into.new)) }
+        ensures through { IfOk result
+            (λ n. Consumes self.old.to_come self.new.to_come (take n into.new)) }
         ensures short_at_end { IfOk result (λ n. n < length into.old → IsAtEnd self.new.to_come) }
         ensures without { IsTrue (not self.old.is_there) → IsErr result }
         ensures same_reader { self.new.is_there ≡ self.old.is_there }
-        ensures no_fault { OnOk result (self.new.faults ≡ self.old.faults) }
-        ensures one_fault { OnErr result (self.new.faults ≡ min (self.old.faults + 1) (2 ^ 64 - 1)) }
+        ensures one_fault { OnErr result
+            (self.new.faults ≡ min (self.old.faults + 1) (2 ^ 64 - 1)) }
     {
         if let Some(reader) = &mut self.inner {
             if let Ok(count) = read_full(reader, into) {
@@ -77,8 +81,10 @@ impl<R: Read> Source for ReaderSource<R> {
 // is tried again.
 fn read_full<R: Read>(reader: &mut R, into: &mut [u8]) -> Result<usize, Failed>
     ensures within { ReadsAtMost result into.new }
-    ensures consumed { IfOk result (λ n. Consumes (R.remaining reader.old) (R.remaining reader.new) (take n into.new)) }
-    ensures short_at_end { IfOk result (λ n. n < length into.old → IsAtEnd (R.remaining reader.new)) }
+    ensures consumed { IfOk result
+        (λ n. Consumes (R.remaining reader.old) (R.remaining reader.new) (take n into.new)) }
+    ensures short_at_end { IfOk result
+        (λ n. n < length into.old → IsAtEnd (R.remaining reader.new)) }
 {
     let mut filled = 0;
     for _ in 0..u64::MAX {

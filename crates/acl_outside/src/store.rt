@@ -1,6 +1,6 @@
 //! What holds bytes that are read by their place. A store that doesn't tell what it holds may answer
 //! anything of at most the asked length, and may answer differently each time.
-ghost use Rattle.std.specs.Prelude.{◌≡◌, ℕ, Option, ◌-◌, List, length, take, drop, min, IfOk, IfSome, OnErr};
+ghost use Rattle.std.specs.Prelude.{◌≡◌, ℕ, Option, ◌-◌, List, length, take, drop, min, is_some, IfOk, IfSome, OnOk, OnErr};
 ghost use Rattle.std.specs.Io.{ReadsAtMost};
 ghost use Rattle.acl_outside.specs.Outside.{Rose, NotFallen, StoreRead, Serves, KeepsServed};
 
@@ -29,7 +29,9 @@ pub trait Store {
         ensures served_ok { IfOk result (λ n. Serves (served self.old) (served self.new)
             (record { at = at; asked = length into.new; bytes = take n into.new })) }
         ensures served_err { OnErr result (KeepsServed (served self.old) (served self.new)) }
+        ensures telling { is_some (served self.new) ≡ is_some (served self.old) }
 
         ensures cause { OnErr result (Rose (faults self.old) (faults self.new)) }
-        ensures never_falls { NotFallen (faults self.old) (faults self.new) };
+        ensures never_falls { NotFallen (faults self.old) (faults self.new) }
+        ensures quiet { OnOk result (faults self.new ≡ faults self.old) };
 }

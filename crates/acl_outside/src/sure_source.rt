@@ -1,8 +1,8 @@
 //! A source in memory that never fails, so its count of faults is always 0.
-ghost use Rattle.std.specs.Prelude.{◌≡◌, ◌<◌, Some, min, length, take, IfOk, OnErr, IsOk};
+ghost use Rattle.std.specs.Prelude.{◌≡◌, ◌<◌, Some, is_some, min, length, take, IfOk, OnOk, OnErr, IsOk};
 ghost use Rattle.std.specs.Io.{ReadsAtMost};
 ghost use Rattle.std.specs.Io.KnownBytes.{Consumes, IsAtEnd, Keeps};
-ghost use Rattle.acl_outside.specs.Outside.{Rose, NotFallen};
+ghost use Rattle.acl_outside.specs.Outside.{Rose, NotFallen, SameCount};
 
 use crate::pieces::copy_front;
 use crate::{Failed, Source};
@@ -41,11 +41,14 @@ impl Source for SureSource {
 
     fn read(&mut self, into: &mut [u8]) -> Result<usize, Failed>
         ensures within { ReadsAtMost result into.new }
-        ensures good { IfOk result (λ n. Consumes (Some self.old) (Some self.new) (take n into.new)) }
+        ensures good { IfOk result
+            (λ n. Consumes (Some self.old) (Some self.new) (take n into.new)) }
         ensures end { IfOk result (λ n. n ≡ 0 → 0 < length into.old → IsAtEnd (Some self.new)) }
         ensures kept { OnErr result (Keeps (Some self.old) (Some self.new)) }
+        ensures telling { is_some (Some self.new) ≡ is_some (Some self.old) }
         ensures cause { OnErr result (Rose 0 0) }
         ensures never_falls { NotFallen 0 0 }
+        ensures quiet { OnOk result (SameCount 0 0) }
 
         ensures sure { IsOk result }
         ensures count { IfOk result (λ n. n ≡ min (length into.old) (length self.old)) }

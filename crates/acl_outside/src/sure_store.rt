@@ -1,7 +1,8 @@
 //! A store in memory that never fails, so its count of faults is always 0.
-ghost use Rattle.std.specs.Prelude.{◌≡◌, ◌-◌, Some, None, length, take, drop, min, IfOk, IfSome, OnErr, IsOk};
+ghost use Rattle.std.specs.Prelude.{◌≡◌, ◌-◌, Some, is_some, length, take, drop, min, IfOk, OnOk, OnErr, IsOk};
 ghost use Rattle.std.specs.Io.{ReadsAtMost};
-ghost use Rattle.acl_outside.specs.Outside.{Rose, NotFallen, StoreRead, Serves, KeepsServed};
+ghost use Rattle.acl_outside.specs.Adapters.{unknown_reads};
+ghost use Rattle.acl_outside.specs.Outside.{Rose, NotFallen, SameCount, Serves, KeepsServed};
 
 use crate::pieces::copy_front;
 use crate::{Failed, Store};
@@ -33,7 +34,7 @@ impl SureStore {
 impl Store for SureStore {
     ghost holds = { λ s. Some s };
 
-    ghost served = { λ _. None };
+    ghost served = { λ _. unknown_reads };
 
     ghost faults = { λ _. 0 };
 
@@ -42,11 +43,13 @@ impl Store for SureStore {
         ensures within { ReadsAtMost result into.new }
         ensures count { IfOk result (λ n. n ≡ min (length into.new) (length self.old - at)) }
         ensures part { IfOk result (λ n. take n into.new ≡ take n (drop at self.old)) }
-        ensures served_ok { IfOk result (λ n. Serves None None
+        ensures served_ok { IfOk result (λ n. Serves unknown_reads unknown_reads
             (record { at = at; asked = length into.new; bytes = take n into.new })) }
-        ensures served_err { OnErr result (KeepsServed None None) }
+        ensures served_err { OnErr result (KeepsServed unknown_reads unknown_reads) }
+        ensures telling { is_some unknown_reads ≡ is_some unknown_reads }
         ensures cause { OnErr result (Rose 0 0) }
         ensures never_falls { NotFallen 0 0 }
+        ensures quiet { OnOk result (SameCount 0 0) }
 
         ensures sure { IsOk result }
     {

@@ -84,6 +84,27 @@ fn a_sink_in_memory_takes_what_fits_and_fails_at_the_chosen_calls(
     Ok(())
 }
 
+#[test]
+fn pieces_are_written_up_to_the_first_that_fails(rt: HostRuntime) -> Result<(), Fail> {
+    let pieces: [&[u8]; 3] = [b"ab", b"cd", b"ef"];
+    let cases: [(&str, usize, &[u64], Result<(), Failed>, &[u8]); 4] = [
+        ("room for all", 6, &[], Ok(()), b"abcdef"),
+        ("no room for the last byte", 5, &[], Err(Failed), b"abcde"),
+        ("the first write fails", 6, &[0], Err(Failed), b""),
+        ("the second write fails", 6, &[1], Err(Failed), b"ab"),
+    ];
+    for (what, room, fails, want, written) in cases {
+        let fails = Vec::from_slice(rt.alloc(), fails)?;
+        let mut sink = MemSink::new(rt.alloc(), room, fails)
+            .ok()
+            .ok_or("no memory")?;
+        assert_eq!(rt; write_pieces(&mut sink, &pieces), want, "{what}");
+        assert_eq!(rt; sink.written(), written, "{what}");
+        assert_eq!(rt; finish(&mut sink), Ok(()), "{what}");
+    }
+    Ok(())
+}
+
 fn expect_read_at<S: Store>(rt: &impl Abort, store: &mut S, at: u64, want: &[u8]) {
     let mut room = [0u8; 3];
     assert_eq!(rt; store.read_at(at, &mut room), Ok(want.len()), "at {at}");

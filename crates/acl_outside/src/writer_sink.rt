@@ -1,8 +1,9 @@
 //! A sink over a writer of the standard library. It adds a count to each error. The writer may hold
 //! bytes back; an empty piece makes it hand them on, and fails where it can't.
-ghost use Rattle.std.specs.Prelude.{◌≡◌, ◌+◌, ◌-◌, ◌^◌, None, min, OnOk, OnErr};
+ghost use Rattle.std.specs.Prelude.{◌≡◌, ◌+◌, ◌-◌, ◌^◌, [], is_some, min, OnOk, OnErr};
 ghost use Rattle.std.specs.Io.KnownBytes.{Appends};
-ghost use Rattle.acl_outside.specs.Outside.{Rose, NotFallen, AppendsPart, Misses};
+ghost use Rattle.acl_outside.specs.Adapters.{unknown_bytes, unknown_count};
+ghost use Rattle.acl_outside.specs.Outside.{Rose, NotFallen, AppendsPart, AreAllSettled, Misses};
 
 use crate::{Failed, Sink};
 use std::io::Write;
@@ -34,23 +35,32 @@ impl<W: Write> WriterSink<W> {
 }
 
 impl<W: Write> Sink for WriterSink<W> {
-    ghost written = { λ _. None };
+    ghost written = { λ _. unknown_bytes };
 
-    ghost missed = { λ _. None };
+    ghost missed = { λ _. unknown_count };
+
+    ghost settled = { λ _. unknown_bytes };
 
     ghost faults = { λ s. s.faults };
 
     fn write(&mut self, piece: &[u8]) -> Result<(), Failed>
-        ensures whole { OnOk result (Appends None None piece.now) }
-        ensures part { OnErr result (AppendsPart None None piece.now) }
-        ensures missed { OnErr result (Misses None None None piece.now) }
+        ensures whole { OnOk result (Appends unknown_bytes unknown_bytes piece.now) }
+        ensures part { OnErr result (AppendsPart unknown_bytes unknown_bytes piece.now) }
+        ensures missed { OnErr result (Misses unknown_bytes unknown_bytes unknown_count piece.now) }
+        ensures settled { OnOk result
+            (piece.now ≡ [] → AreAllSettled unknown_bytes unknown_bytes) }
+        ensures same_missed { OnOk result (unknown_count ≡ unknown_count) }
+        ensures telling { is_some unknown_bytes ≡ is_some unknown_bytes }
+        ensures tells_missed { is_some unknown_count ≡ is_some unknown_count }
+        ensures tells_settled { is_some unknown_bytes ≡ is_some unknown_bytes }
         ensures cause { OnErr result (Rose self.old.faults self.new.faults) }
         ensures never_falls { NotFallen self.old.faults self.new.faults }
+        ensures quiet { OnOk result (self.new.faults ≡ self.old.faults) }
 
         // What goes through to the writer.
         ensures through { OnOk result (Appends self.old.holds self.new.holds piece.now) }
-        ensures no_fault { OnOk result (self.new.faults ≡ self.old.faults) }
-        ensures one_fault { OnErr result (self.new.faults ≡ min (self.old.faults + 1) (2 ^ 64 - 1)) }
+        ensures one_fault { OnErr result
+            (self.new.faults ≡ min (self.old.faults + 1) (2 ^ 64 - 1)) }
     {
         let done = if piece.is_empty() {
             self.inner.flush()
