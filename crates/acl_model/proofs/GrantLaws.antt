@@ -5,8 +5,8 @@ use Rattle.std.proofs.lemmas.Option.{option_and_then_some}
 use Rattle.std.specs.List.{slice_get, cons_option}
 use Rattle.std.specs.Option.{option_and_then, unwrap_or, MatchOption}
 use Rattle.acl_model.specs.Places.{element_in, element_of, children, below}
-use Rattle.acl_model.specs.View.{Signs, in_child, seen, seen_of_item, grant_within, is_grant}
-use Rattle.acl_model.proofs.ViewEquations.{seen_is, seen_of_item-Text, seen_of_item-Child, item_cases, element_of-Text, element_of-Child}
+use Rattle.acl_model.specs.View.{Signs, in_child, filter_of, filter_of_item, grant_within, is_grant}
+use Rattle.acl_model.proofs.ViewEquations.{filter_of_is, filter_of_item-Text, filter_of_item-Child, item_cases, element_of-Text, element_of-Child}
 use Rattle.acl_model.specs.declared.document.Item.{Item, roll-Item, out-roll-Item}
 use Rattle.acl_model.specs.declared.document.Element.{Element, roll-Element}
 use Rattle.acl_model.specs.declared.document.Item.TheVariants.{Text, Child}
@@ -28,8 +28,8 @@ or_true false = refl
 or_right : (a b : Bool) → b ≡ true → (a || b) ≡ true
 or_right a b so = ap (λ v. a || v) so ∙ or_true a
 
-has_grant_is : (e : Element) (signs : Signs) → (seen e).has_grant signs ≡ (is_grant (signs []) || grant_within (map seen_of_item e.items) signs 1)
-has_grant_is e signs = ap (λ s. s.has_grant signs) (seen_is e)
+has_grant_is : (e : Element) (signs : Signs) → (filter_of e).has_grant signs ≡ (is_grant (signs []) || grant_within (map filter_of_item e.items) signs 1)
+has_grant_is e signs = ap (λ s. s.has_grant signs) (filter_of_is e)
 
 children-Text : (bytes : List ℕ) (items : List Item) → children (Text bytes ∷ items) ≡ children items
 children-Text bytes items = ap (λ o. cons_option o (children items)) (element_of-Text bytes)
@@ -40,39 +40,39 @@ children-Child e items = ap (λ o. cons_option o (children items)) (element_of-C
 -- ---- what is granted inside a child is granted within the items
 
 grant_in_first : (e c : Element) (items : List Item) (n : ℕ) (signs : Signs) (k : ℕ)
-    → ((m : ℕ) → slice_get (children items) m ≡ Some c → (seen c).has_grant (in_child signs (m + (k + 1))) ≡ true → grant_within (map seen_of_item items) signs (k + 1) ≡ true)
-    → slice_get (e ∷ children items) n ≡ Some c → (seen c).has_grant (in_child signs (n + k)) ≡ true
-    → ((seen e).has_grant (in_child signs k) || grant_within (map seen_of_item items) signs (k + 1)) ≡ true
+    → ((m : ℕ) → slice_get (children items) m ≡ Some c → (filter_of c).has_grant (in_child signs (m + (k + 1))) ≡ true → grant_within (map filter_of_item items) signs (k + 1) ≡ true)
+    → slice_get (e ∷ children items) n ≡ Some c → (filter_of c).has_grant (in_child signs (n + k)) ≡ true
+    → ((filter_of e).has_grant (in_child signs k) || grant_within (map filter_of_item items) signs (k + 1)) ≡ true
 grant_in_first e c items zero signs k later found granted =
-    ap (λ b. b || grant_within (map seen_of_item items) signs (k + 1))
-    (ap (λ x. (seen x).has_grant (in_child signs k)) (same_within e c found) ∙ ap (λ n. (seen c).has_grant (in_child signs n)) (sym (zero-add k)) ∙ granted)
+    ap (λ b. b || grant_within (map filter_of_item items) signs (k + 1))
+    (ap (λ x. (filter_of x).has_grant (in_child signs k)) (same_within e c found) ∙ ap (λ n. (filter_of c).has_grant (in_child signs n)) (sym (zero-add k)) ∙ granted)
 grant_in_first e c items (suc m) signs k later found granted =
     let same : m + (k + 1) ≡ suc m + k = omega arith in
-    or_right ((seen e).has_grant (in_child signs k)) (grant_within (map seen_of_item items) signs (k + 1))
-    (later m found (ap (λ n. (seen c).has_grant (in_child signs n)) same ∙ granted))
+    or_right ((filter_of e).has_grant (in_child signs k)) (grant_within (map filter_of_item items) signs (k + 1))
+    (later m found (ap (λ n. (filter_of c).has_grant (in_child signs n)) same ∙ granted))
 
-grant_in_child : (items : List Item) (n : ℕ) (signs : Signs) (k : ℕ) (c : Element) → slice_get (children items) n ≡ Some c → (seen c).has_grant (in_child signs (n + k)) ≡ true → grant_within (map seen_of_item items) signs k ≡ true
+grant_in_child : (items : List Item) (n : ℕ) (signs : Signs) (k : ℕ) (c : Element) → slice_get (children items) n ≡ Some c → (filter_of c).has_grant (in_child signs (n + k)) ≡ true → grant_within (map filter_of_item items) signs k ≡ true
 grant_in_child [] n signs k c = λ found granted. absurd (none_is_not_some c found)
 grant_in_child (item ∷ items) n signs k c =
-    item_cases (λ x. slice_get (children (x ∷ items)) n ≡ Some c → (seen c).has_grant (in_child signs (n + k)) ≡ true → grant_within (seen_of_item x ∷ map seen_of_item items) signs k ≡ true)
+    item_cases (λ x. slice_get (children (x ∷ items)) n ≡ Some c → (filter_of c).has_grant (in_child signs (n + k)) ≡ true → grant_within (filter_of_item x ∷ map filter_of_item items) signs k ≡ true)
     (λ bytes found granted.
-    ap (λ s. grant_within (s ∷ map seen_of_item items) signs k) (seen_of_item-Text bytes)
+    ap (λ s. grant_within (s ∷ map filter_of_item items) signs k) (filter_of_item-Text bytes)
     ∙ grant_in_child items n signs k c (ap (λ es. slice_get es n) (sym (children-Text bytes items)) ∙ found) granted)
     (λ e found granted.
-    ap (λ s. grant_within (s ∷ map seen_of_item items) signs k) (seen_of_item-Child e)
+    ap (λ s. grant_within (s ∷ map filter_of_item items) signs k) (filter_of_item-Child e)
     ∙ grant_in_first e c items n signs k (λ m. grant_in_child items m signs (k + 1) c) (ap (λ es. slice_get es n) (sym (children-Child e items)) ∙ found) granted)
     item
 
 -- An element with a granted place inside it, or that is granted itself, has a grant.
-pub grant_shows : (place : List ℕ) (e x : Element) (signs : Signs) → below e place ≡ Some x → signs place ≡ Grant → (seen e).has_grant signs ≡ true
-grant_shows [] e x signs found granted = has_grant_is e signs ∙ ap (λ s. is_grant s || grant_within (map seen_of_item e.items) signs 1) granted
+pub grant_shows : (place : List ℕ) (e x : Element) (signs : Signs) → below e place ≡ Some x → signs place ≡ Grant → (filter_of e).has_grant signs ≡ true
+grant_shows [] e x signs found granted = has_grant_is e signs ∙ ap (λ s. is_grant s || grant_within (map filter_of_item e.items) signs 1) granted
 grant_shows (zero ∷ place) e x signs found granted = absurd (none_is_not_some x found)
 grant_shows (suc n ∷ place) e x signs found granted =
     option_and_then_some (λ c. below c place) (slice_get (children e.items) n) x found (λ c is there.
     has_grant_is e signs
-    ∙ or_right (is_grant (signs [])) (grant_within (map seen_of_item e.items) signs 1)
+    ∙ or_right (is_grant (signs [])) (grant_within (map filter_of_item e.items) signs 1)
     (grant_in_child e.items n signs 1 c is
-    (ap (λ k. (seen c).has_grant (in_child signs k)) (add-one n) ∙ grant_shows place c x (in_child signs (suc n)) there granted)))
+    (ap (λ k. (filter_of c).has_grant (in_child signs k)) (add-one n) ∙ grant_shows place c x (in_child signs (suc n)) there granted)))
 
 -- ---- where an element has a grant, a place is granted
 
@@ -81,7 +81,7 @@ abbrev pub HasGrantedPlace : Element → Signs → Type 0
 HasGrantedPlace e signs = (place : List ℕ) × (x : Element) × (below e place ≡ Some x) × (signs place ≡ Grant)
 
 abbrev Tells : Element → Type 0
-Tells e = (signs : Signs) → (seen e).has_grant signs ≡ true → HasGrantedPlace e signs
+Tells e = (signs : Signs) → (filter_of e).has_grant signs ≡ true → HasGrantedPlace e signs
 
 abbrev TellsItem : Item → Type 0
 TellsItem item = (e : Element) → element_of item ≡ Some e → Tells e
@@ -98,15 +98,15 @@ granted_sign Deny so = absurd (true≢false (sym so))
 abbrev FoundWithin : List Item → Signs → ℕ → Type 0
 FoundWithin items signs k = (n : ℕ) × (c : Element) × (slice_get (children items) n ≡ Some c) × HasGrantedPlace c (in_child signs (n + k))
 
-within_found : (pairs : List ((item : Item) × TellsItem item)) (signs : Signs) (k : ℕ) → grant_within (map seen_of_item (map (λ p. p.0) pairs)) signs k ≡ true → FoundWithin (map (λ p. p.0) pairs) signs k
+within_found : (pairs : List ((item : Item) × TellsItem item)) (signs : Signs) (k : ℕ) → grant_within (map filter_of_item (map (λ p. p.0) pairs)) signs k ≡ true → FoundWithin (map (λ p. p.0) pairs) signs k
 within_found [] signs k so = absurd (true≢false (sym so))
 within_found (pair ∷ pairs) signs k so =
     let items : List Item = map (λ p. p.0) pairs in
-    item_cases (λ x. TellsItem x → grant_within (seen_of_item x ∷ map seen_of_item items) signs k ≡ true → FoundWithin (x ∷ items) signs k)
+    item_cases (λ x. TellsItem x → grant_within (filter_of_item x ∷ map filter_of_item items) signs k ≡ true → FoundWithin (x ∷ items) signs k)
     (λ bytes tells here.
-    let found = within_found pairs signs k (ap (λ s. grant_within (s ∷ map seen_of_item items) signs k) (sym (seen_of_item-Text bytes)) ∙ here) in
+    let found = within_found pairs signs k (ap (λ s. grant_within (s ∷ map filter_of_item items) signs k) (sym (filter_of_item-Text bytes)) ∙ here) in
     (found.0, found.1, ap (λ es. slice_get es found.0) (children-Text bytes items) ∙ found.2, found.3))
-    (λ e tells here. elim (either ((seen e).has_grant (in_child signs k)) (grant_within (map seen_of_item items) signs (k + 1)) (ap (λ s. grant_within (s ∷ map seen_of_item items) signs k) (sym (seen_of_item-Child e)) ∙ here)) [
+    (λ e tells here. elim (either ((filter_of e).has_grant (in_child signs k)) (grant_within (map filter_of_item items) signs (k + 1)) (ap (λ s. grant_within (s ∷ map filter_of_item items) signs k) (sym (filter_of_item-Child e)) ∙ here)) [
       | inl first ↦ (0, e, ap (λ es. slice_get es 0) (children-Child e items), subst (λ m. HasGrantedPlace e (in_child signs m)) (sym (zero-add k)) (tells e (element_of-Child e) (in_child signs k) first))
       | inr later ↦
           let found = within_found pairs signs (k + 1) later in
@@ -115,8 +115,8 @@ within_found (pair ∷ pairs) signs k so =
     ])
     pair.0 pair.1 so
 
-element_tells : (e : Element) → ((signs : Signs) (k : ℕ) → grant_within (map seen_of_item e.items) signs k ≡ true → FoundWithin e.items signs k) → Tells e
-element_tells e inside signs so = elim (either (is_grant (signs [])) (grant_within (map seen_of_item e.items) signs 1) (sym (has_grant_is e signs) ∙ so)) [
+element_tells : (e : Element) → ((signs : Signs) (k : ℕ) → grant_within (map filter_of_item e.items) signs k ≡ true → FoundWithin e.items signs k) → Tells e
+element_tells e inside signs so = elim (either (is_grant (signs [])) (grant_within (map filter_of_item e.items) signs 1) (sym (has_grant_is e signs) ∙ so)) [
   | inl own ↦ ([], e, refl, granted_sign (signs []) own)
   | inr within ↦
       let found = inside signs 1 within in

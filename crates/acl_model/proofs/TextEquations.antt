@@ -1,14 +1,15 @@
 -- The text of an element and of each kind of item, as equations. A fold doesn't compute by itself, so proofs cite these.
 use Rattle.std.proofs.Common.{◌≡◌, ℕ, List, ◌++◌, map, ap, sym, ◌∙◌}
+use Rattle.std.specs.List.{concat}
 use Rattle.acl_model.specs.Ascii.{left_parenthesis, right_parenthesis, hyphen, capital_a}
-use Rattle.acl_model.specs.Text.{joined, line, item_lines, element_lines, element_text, item_text}
+use Rattle.acl_model.specs.Text.{line, item_lines, element_lines, element_text, item_text}
 use Rattle.acl_model.specs.declared.document.Element.{Element}
 use Rattle.acl_model.specs.declared.document.Item.TheVariants.{Text, Child, rolls-Text, rolls-Child}
 use Rattle.acl_model.specs.declared.document.Item.TheOpen.{Item-F}
 use Rattle.acl_model.specs.declared.document.Item.TheFolds.{fold_out-Element, fold-roll-Item}
 
 -- the text of an element
-pub element_text_is : (e : Element) → element_text e ≡ joined (map (line capital_a) e.attributes) ++ (line left_parenthesis e.name ++ (joined (map item_text e.items) ++ line right_parenthesis e.name))
+pub element_text_is : (e : Element) → element_text e ≡ concat (map (line capital_a) e.attributes) ++ (line left_parenthesis e.name ++ (concat (map item_text e.items) ++ line right_parenthesis e.name))
 unfolding element_text item_text
 element_text_is e = fold_out-Element (List ℕ) (List ℕ) item_lines element_lines e
 

@@ -1,9 +1,20 @@
--- The bytes that the lines and names of a document are made of, by their ASCII names.
-use Rattle.std.specs.Prelude.{ℕ, Bool, nat_le, ◌&&◌, ◌||◌}
+-- The bytes that the lines, names and paths of this project are made of, by their ASCII names.
+use Rattle.std.specs.Prelude.{ℕ, Bool, nat_lt, List}
+use Rattle.std.specs.List.{list_all}
 
+-- A byte is a number below 256.
+abbrev pub is_byte : ℕ → Bool
+is_byte b = nat_lt b 256
+
+-- Each of them is a byte.
+abbrev pub are_bytes : List ℕ → Bool
+are_bytes bytes = list_all is_byte bytes
+
+-- the byte that ends a line
 abbrev pub line_feed : ℕ
 line_feed = 10
 
+-- ' ', which stands between the parts of a line
 abbrev pub space : ℕ
 space = 32
 
@@ -15,16 +26,27 @@ left_parenthesis = 40
 abbrev pub right_parenthesis : ℕ
 right_parenthesis = 41
 
--- '-', which begins the line of a text, and is the name of a dummy
+-- '*', the name test that every name passes (XPath 1.0, 2.3)
+abbrev pub asterisk : ℕ
+asterisk = 42
+
+-- '+', which begins the line of a rule that grants
+abbrev pub plus : ℕ
+plus = 43
+
+-- '-', which begins the line of a text and that of a rule that denies, and is the name of a dummy
 abbrev pub hyphen : ℕ
 hyphen = 45
 
+-- '.', which may stand in a name behind its first byte
 abbrev pub full_stop : ℕ
 full_stop = 46
 
+-- '/', which begins a step of a path (XPath 1.0, 2.5)
 abbrev pub slash : ℕ
 slash = 47
 
+-- ':', which may stand in a name
 abbrev pub colon : ℕ
 colon = 58
 
@@ -32,14 +54,10 @@ colon = 58
 abbrev pub capital_a : ℕ
 capital_a = 65
 
+-- '_', which may stand in a name
 abbrev pub underscore : ℕ
 underscore = 95
 
-abbrev pub is_digit : ℕ → Bool
-is_digit b = nat_le 48 b && nat_le b 57
-
-abbrev pub is_capital : ℕ → Bool
-is_capital b = nat_le 65 b && nat_le b 90
-
-abbrev pub is_letter : ℕ → Bool
-is_letter b = is_capital b || (nat_le 97 b && nat_le b 122)
+-- the last control character of ASCII, which is no printable byte
+abbrev pub delete : ℕ
+delete = 127

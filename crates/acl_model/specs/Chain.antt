@@ -23,25 +23,28 @@ Chain = List Element
 abbrev pub ChainSet : Type 0
 ChainSet = Chain → Bool
 
+-- the set of the virtual root alone
 abbrev pub is_virtual_root : ChainSet
 is_virtual_root [] = true
 is_virtual_root (e ∷ up) = false
 
--- An axis leads from the set to an element whose ancestors are `up`.
+-- An axis leads from the set to an element whose ancestors are `up`: from its parent, or from any of them (XPath 1.0, 2.2).
 abbrev pub leads_below : Axis → ChainSet → Chain → Bool
 leads_below Child set up = set up
 leads_below Descendant set [] = set []
 leads_below Descendant set (e ∷ up) = set (e ∷ up) || leads_below Descendant set up
 
+-- A step replaces the set by the elements that its axis leads to and that it keeps (XPath 1.0, 2.1).
 abbrev pub chain_step : Step → ChainSet → ChainSet
 chain_step s set [] = false
 chain_step s set (e ∷ up) = leads_below s.axis set up && keeps s e
 
+-- All steps, the first one first.
 abbrev pub chain_steps : List Step → ChainSet → ChainSet
 chain_steps [] set = set
 chain_steps (s ∷ more) set = chain_steps more (chain_step s set)
 
--- the path selects the first element of the chain
+-- the set that a path selects, from the virtual root on (XPath 1.0, 2)
 unfoldable pub selects : Path → ChainSet
 selects path = chain_steps path.steps is_virtual_root
 

@@ -9,15 +9,16 @@ use Rattle.acl_model.specs.declared.rule.Rule.{Rule}
 use Rattle.acl_model.specs.declared.rule.Sign.{Sign}
 use Rattle.acl_model.specs.declared.rule.Sign.TheVariants.{Grant, Deny}
 
+-- The sign denies.
 abbrev pub is_deny : Sign → Bool
 is_deny Grant = false
 is_deny Deny = true
 
--- at least one rule selects the place
+-- At least one rule selects the place.
 abbrev pub is_selected : Doc → List Rule → List ℕ → Bool
 is_selected d rules place = list_any (λ r. select d r.path place) rules
 
--- a negative rule selects it
+-- A rule that denies selects the place.
 abbrev pub is_denied : Doc → List Rule → List ℕ → Bool
 is_denied d rules place = list_any (λ r. is_deny r.sign && select d r.path place) rules
 
@@ -25,10 +26,11 @@ is_denied d rules place = list_any (λ r. is_deny r.sign && select d r.path plac
 abbrev pub decider : Doc → List Rule → List ℕ → Option (List ℕ)
 decider d rules place = find (is_selected d rules) (prefixes place)
 
--- Denied where there is no decider or a negative rule selects it, and else granted.
+-- Denied where there is no decider, or a rule that denies selects it, and else granted.
 abbrev pub sign_by : Doc → List Rule → Option (List ℕ) → Sign
 sign_by d rules None = Deny
 sign_by d rules (Some place) = if is_denied d rules place then Deny else Grant
 
+-- the sign of a place: that of its decider
 unfoldable pub sign : Doc → List Rule → List ℕ → Sign
 sign d rules place = sign_by d rules (decider d rules place)

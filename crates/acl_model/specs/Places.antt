@@ -1,13 +1,15 @@
 -- Where elements stand. A place is a list of child numbers, from the root down and each from 1; the root's is empty.
-use Rattle.std.specs.Prelude.{ℕ, Option, Some, None, List, [], ◌∷◌, ◌++◌, map, zero, suc}
-use Rattle.std.specs.List.{filter_map, flat_map, slice_get}
+use Rattle.std.specs.Prelude.{ℕ, ◌+◌, nat_eq, length, Option, Some, None, List, [], ◌∷◌, ◌++◌, map, zero, suc}
+use Rattle.std.specs.Cmp.Lexicographic.{pointwise}
+use Rattle.std.specs.List.{filter, filter_map, flat_map, slice_get}
 use Rattle.std.specs.Option.{option_and_then}
 use Rattle.acl_model.specs.declared.document.Doc.{Doc}
 use Rattle.acl_model.specs.declared.document.Item.{Item, out-Item}
 use Rattle.acl_model.specs.declared.document.Element.{Element}
 use Rattle.acl_model.specs.declared.document.Item.TheOpen.{Item-F, Element-F}
-use Rattle.acl_model.specs.declared.document.Item.TheFolds.{fold-Element}
+use Rattle.acl_model.specs.declared.document.Item.TheFolds.{fold-Item, fold-Element}
 
+-- A child is an element, and a text is none.
 abbrev pub element_in : Item-F Item Element → Option Element
 element_in (Item-F.Text bytes) = None
 element_in (Item-F.Child e) = Some e
@@ -39,12 +41,47 @@ abbrev pub prefixes : List ℕ → List (List ℕ)
 prefixes [] = [] ∷ []
 prefixes (k ∷ place) = map (λ prefix. k ∷ prefix) (prefixes place) ++ ([] ∷ [])
 
+-- ---- all places, in document order
+
+-- A text has no place, and a child element has those inside it, counted from itself on.
+abbrev pub places_in_item : Item-F (Option (List (List ℕ))) (List (List ℕ)) → Option (List (List ℕ))
+places_in_item (Item-F.Text bytes) = None
+places_in_item (Item-F.Child inside) = Some inside
+
+-- The places in the items, where the next element child is the k-th.
+abbrev pub numbered : List (Option (List (List ℕ))) → ℕ → List (List ℕ)
+numbered [] k = []
+numbered (None ∷ items) k = numbered items k
+numbered (Some inside ∷ items) k = map (λ place. k ∷ place) inside ++ numbered items (k + 1)
+
+-- An element's own place is before those in its items.
+abbrev pub places_in_element : Element-F (Option (List (List ℕ))) (List (List ℕ)) → List (List ℕ)
+places_in_element e = [] ∷ numbered e.items 1
+
+-- the places of an element and of all elements inside it, counted from it on, in document order
+unfoldable pub places_below : Element → List (List ℕ)
+places_below = fold-Element (Option (List (List ℕ))) (List (List ℕ)) places_in_item places_in_element
+
+-- the same of an item, if it is an element
+unfoldable pub places_of_item : Item → Option (List (List ℕ))
+places_of_item = fold-Item (Option (List (List ℕ))) (List (List ℕ)) places_in_item places_in_element
+
+-- the places where an element of the document stands, in document order
+abbrev pub places : Doc → List (List ℕ)
+places d = places_below d.root
+
+-- how often a place stands in a list of them
+abbrev pub times : List ℕ → List (List ℕ) → ℕ
+times place ps = length (filter (λ p. pointwise nat_eq p place) ps)
+
 -- ---- the tag set
 
+-- A text has no names, and a child has its own.
 abbrev names_in_item : Item-F (List (List ℕ)) (List (List ℕ)) → List (List ℕ)
 names_in_item (Item-F.Text bytes) = []
 names_in_item (Item-F.Child names) = names
 
+-- An element has its name, and the names of its items.
 abbrev names_in_element : Element-F (List (List ℕ)) (List (List ℕ)) → List (List ℕ)
 names_in_element e = e.name ∷ flat_map (λ names. names) e.items
 

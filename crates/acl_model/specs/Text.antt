@@ -1,20 +1,17 @@
 -- The lines of a document or a view, as they are written: this project's profile of the ESIS line form.
 use Rattle.std.specs.Prelude.{ℕ, Option, Some, None, List, [], ◌∷◌, ◌++◌, map}
-use Rattle.acl_model.specs.Ascii.{line_feed, left_parenthesis, right_parenthesis, hyphen, capital_a}
+use Rattle.std.specs.List.{concat}
+use Rattle.acl_model.specs.Ascii.{left_parenthesis, right_parenthesis, hyphen, capital_a}
+use Rattle.acl_model.specs.Lines.{as_line}
 use Rattle.acl_model.specs.declared.document.Doc.{Doc}
 use Rattle.acl_model.specs.declared.document.Item.{Item}
 use Rattle.acl_model.specs.declared.document.Element.{Element}
 use Rattle.acl_model.specs.declared.document.Item.TheOpen.{Item-F, Element-F}
 use Rattle.acl_model.specs.declared.document.Item.TheFolds.{fold-Item, fold-Element}
 
--- the parts, one after another
-abbrev pub joined : List (List ℕ) → List ℕ
-joined [] = []
-joined (part ∷ parts) = part ++ joined parts
-
--- a line: the byte that tells its kind, its argument, a line feed
+-- A line is the byte that tells its kind, and its argument.
 abbrev pub line : ℕ → List ℕ → List ℕ
-line kind argument = kind ∷ (argument ++ (line_feed ∷ []))
+line kind argument = as_line (kind ∷ argument)
 
 -- A text is one line. An element stands as its own lines.
 abbrev pub item_lines : Item-F (List ℕ) (List ℕ) → List ℕ
@@ -23,11 +20,13 @@ item_lines (Item-F.Child lines) = lines
 
 -- An element is its attributes, its start, its items in order, and its end.
 abbrev pub element_lines : Element-F (List ℕ) (List ℕ) → List ℕ
-element_lines e = joined (map (line capital_a) e.attributes) ++ (line left_parenthesis e.name ++ (joined e.items ++ line right_parenthesis e.name))
+element_lines e = concat (map (line capital_a) e.attributes) ++ (line left_parenthesis e.name ++ (concat e.items ++ line right_parenthesis e.name))
 
+-- the text of an element
 unfoldable pub element_text : Element → List ℕ
 element_text = fold-Element (List ℕ) (List ℕ) item_lines element_lines
 
+-- the text of an item
 unfoldable pub item_text : Item → List ℕ
 item_text = fold-Item (List ℕ) (List ℕ) item_lines element_lines
 

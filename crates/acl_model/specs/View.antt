@@ -23,61 +23,69 @@ Signs = List ℕ → Sign
 abbrev pub in_child : Signs → ℕ → Signs
 in_child signs k place = signs (k ∷ place)
 
--- What an item gives: a text itself; an element whether a place in it is granted, and its view, by its signs.
-pub data Seen : Type 0 where
-  words : List ℕ → Seen
-  inner : (Signs → Bool) → (Signs → Option Element) → Seen
+-- What an item gives to the view of its parent: a text its words, a child element what that gives.
+pub data ItemFilter : Type 0 where
+  words : List ℕ → ItemFilter
+  inner : (Signs → Bool) → (Signs → Option Element) → ItemFilter
 
-pub record SeenElement : Type 0 where
+-- What an element gives, by the signs in it: whether a place in it is granted, and its view, where it isn't absent.
+pub record ElementFilter : Type 0 where
   pub has_grant : Signs → Bool
   pub view : Signs → Option Element
 
-abbrev pub seen_item : Item-F Seen SeenElement → Seen
-seen_item (Item-F.Text bytes) = words bytes
-seen_item (Item-F.Child e) = inner e.has_grant e.view
+-- what an item gives, where an element's own is known
+abbrev pub item_filter : Item-F ItemFilter ElementFilter → ItemFilter
+item_filter (Item-F.Text bytes) = words bytes
+item_filter (Item-F.Child e) = inner e.has_grant e.view
 
+-- The sign grants.
 abbrev pub is_grant : Sign → Bool
 is_grant Grant = true
 is_grant Deny = false
 
--- a place in one of the items is granted; k is the number of the next element child
-abbrev pub grant_within : List Seen → Signs → ℕ → Bool
+-- A place in one of the items is granted, where the next element child is the k-th.
+abbrev pub grant_within : List ItemFilter → Signs → ℕ → Bool
 grant_within [] signs k = false
 grant_within (words bytes ∷ items) signs k = grant_within items signs k
 grant_within (inner has_grant view ∷ items) signs k = has_grant (in_child signs k) || grant_within items signs (k + 1)
 
+-- A child that isn't absent stands before the other items.
 abbrev pub with_child : Option Element → List Item → List Item
 with_child None items = items
 with_child (Some e) items = Child e ∷ items
 
+-- A text stands before the other items where its element is granted.
 abbrev pub with_text : Sign → List ℕ → List Item → List Item
 with_text Grant bytes items = Text bytes ∷ items
 with_text Deny bytes items = items
 
 -- the items of the view of an element of this sign: texts where it is granted, and the views of the children
-abbrev pub views : Sign → List Seen → Signs → ℕ → List Item
+abbrev pub views : Sign → List ItemFilter → Signs → ℕ → List Item
 views own [] signs k = []
 views own (words bytes ∷ items) signs k = with_text own bytes (views own items signs k)
 views own (inner has_grant view ∷ items) signs k = with_child (view (in_child signs k)) (views own items signs (k + 1))
 
 -- A granted element keeps its name, attributes and texts. A denied one with a granted descendant is a dummy, which has
 -- the name '-' and neither attributes nor texts. Every other element is absent.
-abbrev pub shown : Sign → Bool → List ℕ → List (List ℕ) → List Item → Option Element
-shown Grant granted_inside name attributes items = Some (record { name = name; attributes = attributes; items = items })
-shown Deny true name attributes items = Some (record { name = hyphen ∷ []; attributes = []; items = items })
-shown Deny false name attributes items = None
+abbrev pub view_by_sign : Sign → Bool → List ℕ → List (List ℕ) → List Item → Option Element
+view_by_sign Grant granted_inside name attributes items = Some (record { name = name; attributes = attributes; items = items })
+view_by_sign Deny true name attributes items = Some (record { name = hyphen ∷ []; attributes = []; items = items })
+view_by_sign Deny false name attributes items = None
 
-abbrev pub seen_element : Element-F Seen SeenElement → SeenElement
-seen_element e = record {
+-- what an element gives, from what its items give
+abbrev pub element_filter : Element-F ItemFilter ElementFilter → ElementFilter
+element_filter e = record {
   has_grant = λ signs. is_grant (signs []) || grant_within e.items signs 1;
-  view = λ signs. shown (signs []) (grant_within e.items signs 1) e.name e.attributes (views (signs []) e.items signs 1);
+  view = λ signs. view_by_sign (signs []) (grant_within e.items signs 1) e.name e.attributes (views (signs []) e.items signs 1);
 }
 
-unfoldable pub seen : Element → SeenElement
-seen = fold-Element Seen SeenElement seen_item seen_element
+-- what an element gives
+unfoldable pub filter_of : Element → ElementFilter
+filter_of = fold-Element ItemFilter ElementFilter item_filter element_filter
 
-unfoldable pub seen_of_item : Item → Seen
-seen_of_item = fold-Item Seen SeenElement seen_item seen_element
+-- the same of an item
+unfoldable pub filter_of_item : Item → ItemFilter
+filter_of_item = fold-Item ItemFilter ElementFilter item_filter element_filter
 
 -- the document of an element, where it isn't absent
 abbrev pub doc_of : Option Element → Option Doc
@@ -86,17 +94,17 @@ doc_of (Some e) = Some (record { root = e })
 
 -- The authorised view of a document, from the root. If the root is absent, it is nothing.
 unfoldable pub view : Doc → List Rule → Option Doc
-view d rules = doc_of ((seen d.root).view (sign d rules))
+view d rules = doc_of ((filter_of d.root).view (sign d rules))
 
--- a rule that grants what a path selects
-abbrev pub granting : Path → Rule
-granting path = record { id = []; sign = Grant; path = path }
+-- the rule that grants what a path selects
+abbrev pub grant_rule : Path → Rule
+grant_rule path = record { id = []; sign = Grant; path = path }
 
--- A query is a second closed policy, on the view.
+-- A query is a second closed policy, on the view: its one rule grants what the query selects there.
 abbrev pub answer : Doc → List Rule → Option Path → Option Doc
 answer d rules None = view d rules
-answer d rules (Some query) = option_and_then (λ v. view v (granting query ∷ [])) (view d rules)
+answer d rules (Some query) = option_and_then (λ v. view v (grant_rule query ∷ [])) (view d rules)
 
--- what is written
+-- the text that is written of the answer
 abbrev pub out : Doc → List Rule → Option Path → List ℕ
 out d rules query = text_of_view (answer d rules query)

@@ -1,12 +1,20 @@
-//! That the two forms of the definitions say the same: by places of a whole document, and by an element with its
-//! ancestors. These functions do nothing: their contracts are the laws.
+//! That the two forms of the definitions say the same, by places of a whole document and by an element with its ancestors;
+//! where an element shows; that texts are bytes; that least widths are one, and what small streams are. These functions
+//! do nothing: their contracts are the laws.
 
-ghost use Rattle.std.specs.Prelude.{◌≡◌, ℕ, List, [], Some, true, is_some};
-ghost use Rattle.acl_model.specs.Places.{below};
+ghost use Rattle.std.specs.Prelude.{◌≡◌, ℕ, ◌^◌, ◌<◌, ◌≤◌, List, [], ◌∷◌, Some, true, is_some, if◌then◌else◌};
+ghost use Rattle.acl_model.specs.Ascii.{are_bytes};
+ghost use Rattle.acl_model.specs.Document.{is_document, is_view_document};
+ghost use Rattle.acl_model.specs.Text.{text};
+ghost use Rattle.acl_model.specs.Places.{below, at, places, times};
 ghost use Rattle.acl_model.specs.Select.{select};
 ghost use Rattle.acl_model.specs.Decide.{sign};
-ghost use Rattle.acl_model.specs.View.{Signs, seen};
+ghost use Rattle.acl_model.specs.View.{Signs, filter_of, view};
 ghost use Rattle.acl_model.specs.Chain.{selects, on_chain, chain_at, chain_signs};
+ghost use Rattle.acl_model.specs.Dictionary.{dictionary, dictionary_section};
+ghost use Rattle.acl_model.specs.Width.{least_width, binary_length, IsLeastWidth};
+ghost use Rattle.acl_model.specs.Stream.{tree_section};
+ghost use Rattle.acl_model.specs.StreamExamples.{one_text, one_child, two_children};
 ghost use Rattle.acl_model.specs.declared.document.Doc.{Doc};
 ghost use Rattle.acl_model.specs.declared.document.Element.{Element};
 ghost use Rattle.acl_model.specs.declared.path.Path.{Path};
@@ -15,24 +23,71 @@ ghost use Rattle.acl_model.specs.declared.rule.Sign.TheVariants.{Grant};
 
 /// A path selects a place exactly where it selects the element there by the element's ancestors.
 pub fn paths_select_by_ancestors()
-    ensures { (d : Doc) (path : Path) (place : List ℕ) → select d path place ≡ on_chain (selects path) (chain_at d.root [] place) }
+    ensures { (d : Doc) (path : Path) (place : List ℕ)
+        → select d path place ≡ on_chain (selects path) (chain_at d.root [] place) }
 {}
 
 /// The sign of a place is that of the nearest selected element among the element there and its ancestors.
 pub fn signs_follow_ancestors()
-    ensures { (d : Doc) (rules : List Rule) (place : List ℕ) → sign d rules place ≡ chain_signs rules d.root [] place }
+    ensures { (d : Doc) (rules : List Rule) (place : List ℕ)
+        → sign d rules place ≡ chain_signs rules d.root [] place }
 {}
 
 /// An element is absent from a view exactly where neither it nor a place inside it is granted.
 pub fn elements_show_where_granted()
-    ensures { (e : Element) (signs : Signs) → is_some ((seen e).view signs) ≡ (seen e).has_grant signs }
+    ensures { (e : Element) (signs : Signs)
+        → is_some ((filter_of e).view signs) ≡ (filter_of e).has_grant signs }
 {}
 
 /// An element has a grant exactly where it, or a place inside it, is granted. So a dummy stands exactly for a denied
 /// element with a granted descendant.
 pub fn grants_are_of_places()
-    ensures found { (e : Element) (signs : Signs) → (seen e).has_grant signs ≡ true
+    ensures found { (e : Element) (signs : Signs) → (filter_of e).has_grant signs ≡ true
         → (place : List ℕ) × (x : Element) × (below e place ≡ Some x) × (signs place ≡ Grant) }
-    ensures had { (e x : Element) (signs : Signs) (place : List ℕ) → below e place ≡ Some x → signs place ≡ Grant
-        → (seen e).has_grant signs ≡ true }
+    ensures had { (e x : Element) (signs : Signs) (place : List ℕ)
+        → below e place ≡ Some x → signs place ≡ Grant → (filter_of e).has_grant signs ≡ true }
+{}
+
+/// The text of a document is bytes, and so is that of a view: each number in a name, an attribute or a text is below 256.
+pub fn texts_are_bytes()
+    ensures document { (d : Doc) → is_document d ≡ true → are_bytes (text d) ≡ true }
+    ensures view { (d : Doc) → is_view_document d ≡ true → are_bytes (text d) ≡ true }
+{}
+
+/// The places of a document are exactly those where an element stands, and each stands among them once.
+pub fn places_are_of_elements()
+    ensures { (d : Doc) (place : List ℕ)
+        → times place (places d) ≡ (if is_some (at d place) then 1 else 0) }
+{}
+
+/// The view of a document is a view document: dummies apart its names are names, and it is no deeper.
+pub fn views_are_view_documents()
+    ensures { (d v : Doc) (rules : List Rule)
+        → is_document d ≡ true → view d rules ≡ Some v → is_view_document v ≡ true }
+{}
+
+/// Where a width up to 32 fits, the least one is found, and it is the only one. Where the size doesn't fall as the width
+/// grows, it is the number of binary digits of the size: so a reader knows it from the size.
+pub fn least_widths_are_found()
+    ensures found { (size : ℕ → ℕ) (w : ℕ) → w ≤ 32 → size w < 2 ^ w
+        → IsLeastWidth size (least_width size) }
+    ensures one { (size : ℕ → ℕ) (v w : ℕ)
+        → IsLeastWidth size v → IsLeastWidth size w → v ≡ w }
+    ensures digits { (size : ℕ → ℕ) (w : ℕ) → ((v : ℕ) → v ≤ w → size v ≤ size w)
+        → w ≤ 32 → IsLeastWidth size w → binary_length (size w) ≡ w }
+{}
+
+/// The dictionary sections and the tree sections of three small documents, as they are worked out by hand.
+pub fn streams_of_small_documents()
+    ensures text_names { dictionary_section (dictionary one_text) ≡ 0x00 ∷ 0x01 ∷ 0x01 ∷ 0x61 ∷ [] }
+    ensures text { tree_section one_text
+        ≡ 0xa0 ∷ 0x00 ∷ 0x00 ∷ 0x00 ∷ 0x00 ∷ 0x00 ∷ 0x02 ∷ 0x68 ∷ 0x69 ∷ [] }
+    ensures child_names { dictionary_section (dictionary one_child)
+        ≡ 0x00 ∷ 0x02 ∷ 0x01 ∷ 0x61 ∷ 0x01 ∷ 0x62 ∷ [] }
+    ensures child { tree_section one_child ≡ 0xad ∷ 0x00 ∷ 0x00 ∷ 0x90 ∷ 0x00 ∷ 0x00 ∷ [] }
+    ensures children_names { dictionary_section (dictionary two_children)
+        ≡ 0x00 ∷ 0x03 ∷ 0x01 ∷ 0x61 ∷ 0x01 ∷ 0x62 ∷ 0x01 ∷ 0x63 ∷ [] }
+    ensures children { tree_section two_children
+        ≡ 0x97 ∷ 0xb0 ∷ 0x00 ∷ 0x01 ∷ 0x00 ∷ 0x00 ∷ 0x00 ∷ 0x0a ∷ 0x49 ∷ 0x64 ∷ 0x20 ∷ 0x43 ∷ 0x44 ∷ 0x41 ∷ 0x54
+        ∷ 0x41 ∷ 0x20 ∷ 0x78 ∷ 0x87 ∷ 0x00 ∷ 0x00 ∷ 0x00 ∷ 0x00 ∷ 0x00 ∷ 0x01 ∷ 0x31 ∷ 0xc2 ∷ 0x00 ∷ 0x00 ∷ [] }
 {}

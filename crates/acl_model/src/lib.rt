@@ -3,12 +3,20 @@
 
 mod document;
 mod laws;
+mod lines;
+mod names;
 mod path;
 mod rule;
 mod sequence;
 
 pub use document::{Doc, Element, Item};
-pub use laws::{elements_show_where_granted, paths_select_by_ancestors, signs_follow_ancestors};
+pub use laws::{
+    elements_show_where_granted, grants_are_of_places, least_widths_are_found,
+    paths_select_by_ancestors, places_are_of_elements, signs_follow_ancestors,
+    streams_of_small_documents, texts_are_bytes, views_are_view_documents,
+};
+pub use lines::{cut, next_line};
+pub use names::{is_a_name, may_begin_name, may_continue_name};
 pub use path::{Axis, Cmp, Op, Operand, Path, Pred, PredStep, Step, Test};
 pub use rule::{Rule, Sign};
 pub use sequence::{Bytes, Name, Place, Sequence};

@@ -1,6 +1,6 @@
 //! A `Vec` that contracts see as the list of its elements, and the three kinds of it that have names.
 
-ghost use Rattle.std.specs.Prelude.{◌≡◌, [], ◌∷◌, ◌++◌, length, ◌==◌, IfOk, OnOk, OnErr};
+ghost use Rattle.std.specs.Prelude.{◌≡◌, [], length, ◌==◌, IfOk};
 
 use std::alloc::{AllocError, Global};
 use std::marker::Model;
@@ -19,7 +19,7 @@ pub type Name = Sequence<u8>;
 
 /// Where an element stands: from the root down, its number among the element children of its parent, from 1.
 /// The place of the root is empty.
-pub type Place = Sequence<u32>;
+pub type Place = Sequence<u64>;
 
 impl<T> Model for Sequence<T> {
     ghost use Rattle.std.specs.Prelude.{List};
@@ -73,17 +73,6 @@ impl<T> Sequence<T> {
         ensures { result ≡ (length self.now == 0) }
     {
         self.elements.is_empty()
-    }
-}
-
-impl<T: Drop> Sequence<T> {
-    /// Adds an element at the end.
-    pub fn push(&mut self, element: T) -> Result<(), AllocError>
-        ensures added { OnOk result (self.new ≡ self.old ++ element ∷ []) }
-        ensures kept { OnErr result (self.new ≡ self.old) }
-    {
-        self.elements.push(element)?;
-        Ok(())
     }
 }
 

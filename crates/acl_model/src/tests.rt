@@ -1,20 +1,62 @@
-//! That a list takes elements and gives them back, with ample memory.
+//! That each public call gives what it is asked for, with ample memory.
 
 use super::*;
 use std::test::Fail;
 
 #[test]
 fn a_list_gives_back_what_it_took(rt: HostRuntime) -> Result<(), Fail> {
-    let mut name = Name::from_slice(rt.alloc(), b"Folde")?;
-    name.push(b'r')?;
+    let name = Name::from_slice(rt.alloc(), b"Folder")?;
     assert_eq!(rt; name.len(), 6);
     assert!(rt; !name.is_empty());
+    assert_eq!(rt; name.as_slice(), b"Folder".as_slice());
     let bytes = name.into_vec();
-    assert_eq!(rt; bytes.as_slice(), b"Folder".as_slice());
-    let mut place = Place::new(rt.alloc());
-    assert!(rt; place.is_empty());
-    place.push(3)?;
-    assert_eq!(rt; place.as_slice(), [3].as_slice());
     assert_eq!(rt; Sequence::from_vec(bytes).len(), 6);
+    assert!(rt; Bytes::new(rt.alloc()).is_empty());
+    Ok(())
+}
+
+#[test]
+fn a_place_counts_past_32_bits(rt: HostRuntime) -> Result<(), Fail> {
+    let place = Place::from_slice(rt.alloc(), &[1, 4_294_967_296])?;
+    assert_eq!(rt; place.as_slice(), [1, 4_294_967_296].as_slice());
+    Ok(())
+}
+
+#[test]
+fn a_name_has_the_form_of_one(rt: HostRuntime) -> Result<(), Fail> {
+    for (name, is_one) in [
+        (b"Folder".as_slice(), true),
+        (b"_a.1-b:c".as_slice(), true),
+        (b"\xc3\xa9".as_slice(), true),
+        (b"".as_slice(), false),
+        (b"1a".as_slice(), false),
+        (b"-".as_slice(), false),
+        (b"a b".as_slice(), false),
+    ] {
+        assert_eq!(rt; is_a_name(name), is_one);
+    }
+    assert!(rt; is_a_name(&[b'a'; 255]));
+    assert!(rt; !is_a_name(&[b'a'; 256]));
+    Ok(())
+}
+
+#[test]
+fn lines_come_off_the_front_one_at_a_time(rt: HostRuntime) -> Result<(), Fail> {
+    for (text, line, behind) in [
+        (b"(a\n\n)a".as_slice(), b"(a".as_slice(), b"\n)a".as_slice()),
+        (b"\n)a".as_slice(), b"".as_slice(), b")a".as_slice()),
+        (b")a".as_slice(), b")a".as_slice(), b"".as_slice()),
+    ] {
+        assert_eq!(rt; next_line(text), Some((line, behind)));
+    }
+    assert_eq!(rt; next_line(b""), None);
+    Ok(())
+}
+
+#[test]
+fn a_text_is_cut_at_the_first_of_its_bytes(rt: HostRuntime) -> Result<(), Fail> {
+    let parts = Some((b"+".as_slice(), b"R1 /a".as_slice()));
+    assert_eq!(rt; cut(b"+ R1 /a", b' '), parts);
+    assert_eq!(rt; cut(b"R1", b' '), None);
     Ok(())
 }
