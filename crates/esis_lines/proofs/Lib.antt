@@ -1,7 +1,7 @@
-pub mod Parts
-pub mod Cutting
 pub mod Running
-pub mod Folds
+pub mod Bare
 pub mod Passing
 pub mod Taken
+pub mod Fitting
 pub mod Answering
+pub mod Elements

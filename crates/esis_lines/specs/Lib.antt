@@ -1,4 +1,6 @@
 pub mod Answers
+pub mod CodeValues
+pub mod DocumentText
 pub mod Input
-pub mod Reading
-pub mod Spoken
+pub mod Machine
+pub mod Output

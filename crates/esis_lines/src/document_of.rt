@@ -1,14 +1,13 @@
 //! From bytes to a document: a line at a time goes from the front of the bytes into the machine.
 
 ghost use Rattle.std.specs.Prelude.{◌≡◌};
-ghost use Rattle.esis_lines.specs.Reading.{read_doc_of};
 ghost use Rattle.esis_lines.specs.Answers.{ButForMemory};
+ghost use Rattle.esis_lines.specs.Machine.{read_doc_of};
 
 use crate::doc_fault::DocFault;
 use crate::line::classify;
-use crate::next_line::next_line;
 use crate::reader::Reader;
-use acl_model::Doc;
+use acl_model::{Doc, next_line};
 use std::alloc::Global;
 
 /// Reads the whole bytes. No byte is looked at again once its line was taken.
@@ -17,13 +16,12 @@ pub fn document_of(alloc: Global, bytes: &[u8]) -> Result<Doc, DocFault>
 {
     let mut reader = Reader::new(alloc);
     let mut rest = bytes;
-    while !rest.is_empty() {
-        let (line, after) = next_line(rest);
+    while let Some((line, behind)) = next_line(rest) {
         let Some(next) = reader.take(alloc, classify(line))? else {
             return Err(DocFault::BadLine { line: 0 });
         };
         reader = next;
-        rest = after;
+        rest = behind;
     }
     reader.finish().ok_or(DocFault::BadLine { line: 0 })
 }

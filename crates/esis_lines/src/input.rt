@@ -1,9 +1,10 @@
 //! Reads a source to its end into memory, up to a limit. The bytes taken and the bytes to come are
 //! always the bytes that were to come at the start.
-ghost use Rattle.std.specs.Prelude.{◌≡◌, ◌≤◌, length, IfOk, OnOk, IfErr, IsErrOf};
+ghost use Rattle.std.specs.Prelude.{◌≡◌, ◌≤◌, ◌+◌, true, is_some, length, IfOk, OnOk, IfErr};
 ghost use Rattle.std.specs.Io.KnownBytes.{Consumes, IsAtEnd};
-ghost use Rattle.acl_outside.specs.Outside.{Rose, NotFallen};
-ghost use Rattle.esis_lines.specs.Input.{TookTooMany};
+ghost use Rattle.acl_model.specs.Ascii.{are_bytes};
+ghost use Rattle.acl_outside.specs.Outside.{CountsWhere, NotFallen, TakesAtMost};
+ghost use Rattle.esis_lines.specs.Input.{TookTooMany, is_failure};
 
 use acl_model::Bytes;
 use acl_outside::{NoMemory, Source};
@@ -45,16 +46,20 @@ impl From<acl_outside::Failed> for ReadAllFault {
 const CHUNK: usize = 8192;
 
 /// All bytes of a source, which are at most `limit`. Where there are more, one more than the limit is
-/// taken from the source, and no further read is made.
+/// taken from the source, and no further read is made. No fault is tried again.
 pub fn read_all<Q: Source>(alloc: Global, source: &mut Q, limit: u32) -> Result<Bytes, ReadAllFault>
     ensures whole { IfOk result (λ bytes. Consumes (Q.left source.old) (Q.left source.new) bytes) }
     ensures end { OnOk result (IsAtEnd (Q.left source.new)) }
     ensures within { IfOk result (λ bytes. length bytes ≤ limit) }
+    ensures bytes { IfOk result (λ bytes. are_bytes bytes ≡ true) }
     ensures too_long { IfErr result (λ fault.
         TookTooMany fault limit (Q.left source.old) (Q.left source.new)) }
 
-    ensures cause { IsErrOf result ReadAllFault.Failed → Rose (Q.faults source.old) (Q.faults source.new) }
+    // On every answer, want of memory and a fault among them.
+    ensures taken { TakesAtMost (limit + 1) (Q.left source.old) (Q.left source.new) }
+    ensures count { CountsWhere (is_failure result) (Q.faults source.old) (Q.faults source.new) }
     ensures never_falls { NotFallen (Q.faults source.old) (Q.faults source.new) }
+    ensures telling { is_some (Q.left source.new) ≡ is_some (Q.left source.old) }
 {
     let most = limit as usize + 1;
     let mut bytes = Vec::new(alloc);
@@ -63,9 +68,18 @@ pub fn read_all<Q: Source>(alloc: Global, source: &mut Q, limit: u32) -> Result<
         let room = CHUNK.min(most - bytes.len());
         let count = source.read(&mut chunk[..room])?;
         if count == 0 {
-            return Ok(Bytes::from_vec(bytes));
+            return Ok(bytes_of(bytes));
         }
         bytes.extend_from_slice(&chunk[..count])?;
     }
     Err(ReadAllFault::TooLong { limit })
+}
+
+/// What a `Vec` of `u8` holds, which are bytes.
+#[tactic(auto, using(crate::proofs::Fitting::fitting))]
+fn bytes_of(bytes: Vec<u8>) -> Bytes
+    ensures same { result ≡ bytes.items }
+    ensures bytes { are_bytes result ≡ true }
+{
+    Bytes::from_vec(bytes)
 }

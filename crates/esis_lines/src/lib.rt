@@ -7,8 +7,6 @@ mod document_of;
 mod input;
 mod laws;
 mod line;
-mod name;
-mod next_line;
 mod open_element;
 mod output;
 mod reader;

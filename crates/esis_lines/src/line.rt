@@ -1,10 +1,10 @@
 //! What one line says. Its first byte tells the kind, and the rest is a name or a text.
 
 ghost use Rattle.std.specs.Prelude.{◌≡◌};
-ghost use Rattle.esis_lines.specs.Reading.{line_of};
-ghost use Rattle.esis_lines.specs.Spoken.{spoken_line};
+ghost use Rattle.esis_lines.specs.Machine.{line_of};
+ghost use Rattle.esis_lines.specs.CodeValues.{line_or_none};
 
-use crate::name::is_a_name;
+use acl_model::is_a_name;
 
 /// A line that is not refused by itself.
 #[derive(Clone, Copy)]
@@ -19,7 +19,7 @@ pub enum Line<'a> {
 
 /// Reads a line, which is without its line feed.
 pub fn classify(line: &[u8]) -> Option<Line<'_>>
-    ensures { spoken_line result ≡ line_of line.now }
+    ensures { line_or_none result ≡ line_of line.now }
 {
     match line {
         [b'-', text @ ..] => Some(Line::Text(text)),

@@ -2,7 +2,7 @@
 
 ghost use Rattle.std.specs.Prelude.{◌≡◌, ◌++◌, ◌∷◌, [], IfOk, OnOk};
 ghost use Rattle.acl_model.specs.declared.document.Element.{Element};
-ghost use Rattle.esis_lines.specs.Reading.{OpenElement, closed, with_item};
+ghost use Rattle.esis_lines.specs.Machine.{OpenElement, element_of_open, with_item};
 
 use acl_model::{Element, Item, Name, Sequence};
 use sqlite_items::Items;
@@ -17,11 +17,11 @@ pub struct OpenElement {
 }
 
 impl Model for OpenElement {
-    ghost use Rattle.esis_lines.specs.Reading.{OpenElement as Seen};
+    ghost use Rattle.esis_lines.specs.Machine.{OpenElement as OpenElementValue};
     ghost use Rattle.std.specs.Coded.{codes};
     ghost use Rattle.acl_model.specs.contracts.document.Item as item;
 
-    ghost Value = { Seen };
+    ghost Value = { OpenElementValue };
 
     ghost coded = { Prim.hlevel (codes, item.the_row.coded) };
 
@@ -57,7 +57,7 @@ impl OpenElement {
 
     /// The whole element.
     pub fn close(self, alloc: Global) -> Element
-        ensures { result ≡ closed self }
+        ensures { result ≡ element_of_open self }
     {
         let OpenElement { name, items } = self;
         Element {

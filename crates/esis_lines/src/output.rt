@@ -1,49 +1,39 @@
 //! Writes a document as its lines. After each write, what the sink got and what is still to come is the
 //! document's text.
-ghost use Rattle.std.specs.Prelude.{OnOk, OnErr, map};
-ghost use Rattle.std.specs.Io.KnownBytes.{Appends};
+ghost use Rattle.std.specs.Prelude.{map};
+ghost use Rattle.std.specs.List.{concat};
 ghost use Rattle.acl_model.specs.Ascii.{capital_a};
-ghost use Rattle.acl_model.specs.Text.{text, line, joined, element_text, item_text};
-ghost use Rattle.acl_outside.specs.Outside.{Rose, NotFallen, AppendsPart, MissesAtLeast};
+ghost use Rattle.acl_model.specs.Text.{text, line, element_text, item_text};
+ghost use Rattle.acl_outside.specs.Writing.{Writes};
+ghost use Rattle.esis_lines.specs.Output.{start_text};
 
 use acl_model::{Bytes, Doc, Element, Item};
-use acl_outside::{Failed, Sink};
+use acl_outside::{Failed, Sink, write_pieces};
 
 /// Writes the lines of a document. Where the sink fails, a front part of them was written, and nothing
 /// after the failure.
 pub fn write_doc<K: Sink>(doc: &Doc, sink: &mut K) -> Result<(), Failed>
-    ensures whole { OnOk result (Appends (K.written sink.old) (K.written sink.new) (text doc.now)) }
-    ensures part { OnErr result (AppendsPart (K.written sink.old) (K.written sink.new) (text doc.now)) }
-    ensures missed { OnErr result (MissesAtLeast (K.written sink.old) (K.written sink.new) (K.missed sink.new) (text doc.now)) }
-    ensures cause { OnErr result (Rose (K.faults sink.old) (K.faults sink.new)) }
-    ensures never_falls { NotFallen (K.faults sink.old) (K.faults sink.new) }
+    ensures written { Writes K.written K.missed K.settled K.faults
+        result sink.old sink.new (text doc.now) }
 {
     write_element(&doc.root, sink)
 }
 
 #[cycle(tree)]
-#[tactic(auto, using(acl_model::proofs::TextEquations::text_equations, crate::proofs::Parts::parts))]
 fn write_element<K: Sink>(element: &Element, sink: &mut K) -> Result<(), Failed>
-    ensures whole { OnOk result (Appends (K.written sink.old) (K.written sink.new) (element_text element.now)) }
-    ensures part { OnErr result (AppendsPart (K.written sink.old) (K.written sink.new) (element_text element.now)) }
-    ensures missed { OnErr result (MissesAtLeast (K.written sink.old) (K.written sink.new) (K.missed sink.new) (element_text element.now)) }
-    ensures cause { OnErr result (Rose (K.faults sink.old) (K.faults sink.new)) }
-    ensures never_falls { NotFallen (K.faults sink.old) (K.faults sink.new) }
+    ensures written { Writes K.written K.missed K.settled K.faults
+        result sink.old sink.new (element_text element.now) }
 {
-    write_attributes(element.attributes.as_slice(), sink)?;
-    write_line(b'(', element.name.as_slice(), sink)?;
+    write_start(element.attributes.as_slice(), element.name.as_slice(), sink)?;
     write_items(element.items.as_slice(), sink)?;
     write_line(b')', element.name.as_slice(), sink)
 }
 
 #[cycle(tree)]
-#[tactic(auto, using(acl_model::proofs::TextEquations::text_equations, crate::proofs::Parts::parts))]
+#[tactic(auto, using(acl_model::proofs::TextEquations::text_equations, acl_outside::proofs::Remaining::chain))]
 fn write_items<K: Sink>(items: &[Item], sink: &mut K) -> Result<(), Failed>
-    ensures whole { OnOk result (Appends (K.written sink.old) (K.written sink.new) (joined (map item_text items.now))) }
-    ensures part { OnErr result (AppendsPart (K.written sink.old) (K.written sink.new) (joined (map item_text items.now))) }
-    ensures missed { OnErr result (MissesAtLeast (K.written sink.old) (K.written sink.new) (K.missed sink.new) (joined (map item_text items.now))) }
-    ensures cause { OnErr result (Rose (K.faults sink.old) (K.faults sink.new)) }
-    ensures never_falls { NotFallen (K.faults sink.old) (K.faults sink.new) }
+    ensures written { Writes K.written K.missed K.settled K.faults
+        result sink.old sink.new (concat (map item_text items.now)) }
 {
     for item in items {
         write_item(item, sink)?;
@@ -52,13 +42,10 @@ fn write_items<K: Sink>(items: &[Item], sink: &mut K) -> Result<(), Failed>
 }
 
 #[cycle(tree)]
-#[tactic(auto, using(acl_model::proofs::TextEquations::text_equations, crate::proofs::Parts::parts))]
+#[tactic(auto, using(acl_model::proofs::TextEquations::text_equations, acl_outside::proofs::Remaining::chain))]
 fn write_item<K: Sink>(item: &Item, sink: &mut K) -> Result<(), Failed>
-    ensures whole { OnOk result (Appends (K.written sink.old) (K.written sink.new) (item_text item.now)) }
-    ensures part { OnErr result (AppendsPart (K.written sink.old) (K.written sink.new) (item_text item.now)) }
-    ensures missed { OnErr result (MissesAtLeast (K.written sink.old) (K.written sink.new) (K.missed sink.new) (item_text item.now)) }
-    ensures cause { OnErr result (Rose (K.faults sink.old) (K.faults sink.new)) }
-    ensures never_falls { NotFallen (K.faults sink.old) (K.faults sink.new) }
+    ensures written { Writes K.written K.missed K.settled K.faults
+        result sink.old sink.new (item_text item.now) }
 {
     match item {
         Item::Text(bytes) => write_line(b'-', bytes.as_slice(), sink),
@@ -66,13 +53,20 @@ fn write_item<K: Sink>(item: &Item, sink: &mut K) -> Result<(), Failed>
     }
 }
 
-#[tactic(auto, using(crate::proofs::Parts::parts))]
+// What stands before an element's items: its attributes, and then its start.
+#[tactic(auto, using(acl_outside::proofs::Remaining::chain))]
+fn write_start<K: Sink>(attributes: &[Bytes], name: &[u8], sink: &mut K) -> Result<(), Failed>
+    ensures written { Writes K.written K.missed K.settled K.faults
+        result sink.old sink.new (start_text attributes.now name.now) }
+{
+    write_attributes(attributes, sink)?;
+    write_line(b'(', name, sink)
+}
+
+#[tactic(auto, using(acl_outside::proofs::Remaining::chain))]
 fn write_attributes<K: Sink>(attributes: &[Bytes], sink: &mut K) -> Result<(), Failed>
-    ensures whole { OnOk result (Appends (K.written sink.old) (K.written sink.new) (joined (map (line capital_a) attributes.now))) }
-    ensures part { OnErr result (AppendsPart (K.written sink.old) (K.written sink.new) (joined (map (line capital_a) attributes.now))) }
-    ensures missed { OnErr result (MissesAtLeast (K.written sink.old) (K.written sink.new) (K.missed sink.new) (joined (map (line capital_a) attributes.now))) }
-    ensures cause { OnErr result (Rose (K.faults sink.old) (K.faults sink.new)) }
-    ensures never_falls { NotFallen (K.faults sink.old) (K.faults sink.new) }
+    ensures written { Writes K.written K.missed K.settled K.faults
+        result sink.old sink.new (concat (map (line capital_a) attributes.now)) }
 {
     for attribute in attributes {
         write_line(b'A', attribute.as_slice(), sink)?;
@@ -80,15 +74,10 @@ fn write_attributes<K: Sink>(attributes: &[Bytes], sink: &mut K) -> Result<(), F
     Ok(())
 }
 
-#[tactic(auto, using(crate::proofs::Parts::parts))]
+#[tactic(auto, using(acl_outside::proofs::Remaining::chain))]
 fn write_line<K: Sink>(kind: u8, argument: &[u8], sink: &mut K) -> Result<(), Failed>
-    ensures whole { OnOk result (Appends (K.written sink.old) (K.written sink.new) (line kind argument.now)) }
-    ensures part { OnErr result (AppendsPart (K.written sink.old) (K.written sink.new) (line kind argument.now)) }
-    ensures missed { OnErr result (MissesAtLeast (K.written sink.old) (K.written sink.new) (K.missed sink.new) (line kind argument.now)) }
-    ensures cause { OnErr result (Rose (K.faults sink.old) (K.faults sink.new)) }
-    ensures never_falls { NotFallen (K.faults sink.old) (K.faults sink.new) }
+    ensures written { Writes K.written K.missed K.settled K.faults
+        result sink.old sink.new (line kind argument.now) }
 {
-    sink.write(&[kind])?;
-    sink.write(argument)?;
-    sink.write(b"\n")
+    write_pieces(sink, &[&[kind], argument, b"\n"])
 }

@@ -2,8 +2,8 @@
 
 ghost use Rattle.std.specs.Prelude.{◌≡◌, [], IfOk, reverse};
 ghost use Rattle.std.specs.Result.{result_ok};
-ghost use Rattle.esis_lines.specs.Reading.{State, ended, finished, placed, said, started, step};
-ghost use Rattle.esis_lines.specs.Spoken.{spoken_line};
+ghost use Rattle.esis_lines.specs.Machine.{State, document_of_state, state_after_end, state_after_start, state_after_text, state_with_element, step};
+ghost use Rattle.esis_lines.specs.CodeValues.{line_or_none};
 
 use crate::line::Line;
 use crate::open_element::OpenElement;
@@ -27,8 +27,8 @@ pub struct Reader {
 impl Model for Reader {
     ghost use Rattle.std.specs.Coded.{codes};
     ghost use Rattle.acl_model.specs.contracts.document.Item as item;
-    ghost use Rattle.esis_lines.specs.Reading.{State};
-    ghost use Rattle.esis_lines.specs.Spoken.{state_of};
+    ghost use Rattle.esis_lines.specs.Machine.{State};
+    ghost use Rattle.esis_lines.specs.CodeValues.{state_of};
 
     ghost Value = { State };
 
@@ -50,7 +50,7 @@ impl Reader {
 
     /// An element starts. None where the root has ended or 255 elements are open.
     fn start(self, alloc: Global, name: &[u8]) -> Result<Option<Reader>, AllocError>
-        ensures { IfOk result (λ next. next ≡ started name.now self) }
+        ensures { IfOk result (λ next. next ≡ state_after_start name.now self) }
     {
         let Reader { mut opened, root } = self;
         if root.is_some() || opened.len() >= MOST_OPEN {
@@ -62,7 +62,7 @@ impl Reader {
 
     /// The innermost open element ends. None where nothing is open or its name is another.
     fn end(self, alloc: Global, name: &[u8]) -> Result<Option<Reader>, AllocError>
-        ensures { IfOk result (λ next. next ≡ ended name.now self) }
+        ensures { IfOk result (λ next. next ≡ state_after_end name.now self) }
     {
         let Reader { mut opened, root } = self;
         if root.is_some() {
@@ -79,7 +79,7 @@ impl Reader {
 
     /// A text stands here. None where nothing is open.
     fn say(self, alloc: Global, bytes: &[u8]) -> Result<Option<Reader>, AllocError>
-        ensures { IfOk result (λ next. next ≡ said bytes.now self) }
+        ensures { IfOk result (λ next. next ≡ state_after_text bytes.now self) }
     {
         let Reader { mut opened, root } = self;
         if root.is_some() {
@@ -95,7 +95,7 @@ impl Reader {
 
     /// Takes a line. None where it is refused.
     pub fn take(self, alloc: Global, line: Option<Line>) -> Result<Option<Reader>, AllocError>
-        ensures { IfOk result (λ next. next ≡ step self (spoken_line line.entry)) }
+        ensures { IfOk result (λ next. next ≡ step self (line_or_none line.entry)) }
     {
         match line {
             Some(Line::Start(name)) => self.start(alloc, name),
@@ -107,7 +107,7 @@ impl Reader {
 
     /// The document, where its root has ended.
     pub fn finish(self) -> Option<Doc>
-        ensures { result ≡ result_ok (finished self) }
+        ensures { result ≡ result_ok (document_of_state self) }
     {
         let Reader { opened: _, root } = self;
         match root {
@@ -119,7 +119,8 @@ impl Reader {
 
 /// A whole element stands in the innermost of those that are open around it. With none around it is the root.
 fn place(element: Element, mut around: Vec<OpenElement>) -> Result<Option<Reader>, AllocError>
-    ensures { IfOk result (λ next. next ≡ Some (placed element (reverse around.items))) }
+    ensures { IfOk result (λ next.
+        next ≡ Some (state_with_element element (reverse around.items))) }
 {
     let Some(mut innermost) = around.pop() else {
         return Ok(Some(Reader {

@@ -1,9 +1,9 @@
 //! A document from a source: the source is read to its end, and then its bytes.
 
-ghost use Rattle.std.specs.Prelude.{◌≡◌, ◌+◌, IfSome, OnOk, IsErrOf};
+ghost use Rattle.std.specs.Prelude.{◌≡◌, ◌+◌, is_some, IfSome, OnOk};
 ghost use Rattle.std.specs.Io.KnownBytes.{IsAtEnd};
-ghost use Rattle.acl_outside.specs.Outside.{NotFallen, Rose};
-ghost use Rattle.esis_lines.specs.Answers.{IfTold, IsTrueAnswer, TakesUpTo, most_document_bytes, read_within};
+ghost use Rattle.acl_outside.specs.Outside.{CountsWhere, NotFallen, TakesAtMost};
+ghost use Rattle.esis_lines.specs.Answers.{IfAboutBytes, IsTrueAnswer, TakesUpTo, answer_within, is_source_fault, most_document_bytes};
 
 use crate::doc_fault::DocFault;
 use crate::document_of::document_of;
@@ -18,13 +18,21 @@ pub const MOST_DOCUMENT_BYTES: u32 = 33_554_432;
 /// Reads a source to its end as a document without attributes. Where it gives more than `MOST_DOCUMENT_BYTES`, one byte
 /// more is taken.
 pub fn read_doc<Q: Source>(alloc: Global, source: &mut Q) -> Result<Doc, DocFault>
-    ensures exact { IfSome (Q.left source.old) (λ bytes. IfTold result (result ≡ read_within most_document_bytes bytes)) }
-    ensures document { IfSome (Q.left source.old) (λ bytes. IsTrueAnswer result most_document_bytes bytes) }
+    ensures exact { IfSome (Q.left source.old) (λ bytes.
+        IfAboutBytes result (result ≡ answer_within most_document_bytes bytes)) }
+    ensures document { IfSome (Q.left source.old) (λ bytes.
+        IsTrueAnswer result most_document_bytes bytes) }
     ensures end { OnOk result (IsAtEnd (Q.left source.new)) }
-    ensures taken { IfTold result (TakesUpTo (most_document_bytes + 1) (Q.left source.old) (Q.left source.new)) }
+    ensures taken { IfAboutBytes result
+        (TakesUpTo (most_document_bytes + 1) (Q.left source.old) (Q.left source.new)) }
 
-    ensures cause { IsErrOf result DocFault.SourceFault → Rose (Q.faults source.old) (Q.faults source.new) }
+    // On every answer, want of memory and a fault among them.
+    ensures taken_at_most { TakesAtMost (most_document_bytes + 1)
+        (Q.left source.old) (Q.left source.new) }
+    ensures count { CountsWhere (is_source_fault result)
+        (Q.faults source.old) (Q.faults source.new) }
     ensures never_falls { NotFallen (Q.faults source.old) (Q.faults source.new) }
+    ensures telling { is_some (Q.left source.new) ≡ is_some (Q.left source.old) }
 {
     match read_all(alloc, source, MOST_DOCUMENT_BYTES) {
         Ok(bytes) => document_of(alloc, bytes.as_slice()),

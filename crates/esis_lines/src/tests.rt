@@ -86,8 +86,8 @@ fn sample(alloc: Global) -> Result<Doc, AllocError> {
     let empty = element(alloc, b"c", Vec::new(alloc))?;
     let items = Vec::from_array(alloc, [Item::Child(filled), Item::Child(empty)])?;
     let mut root = element(alloc, b"a", items)?;
-    root.attributes
-        .push(Bytes::from_slice(alloc, b"Id CDATA x")?)?;
+    let attribute = Bytes::from_slice(alloc, b"Id CDATA x")?;
+    root.attributes = Sequence::from_vec(Vec::from_array(alloc, [attribute])?);
     Ok(Doc { root })
 }
 

@@ -1,15 +1,14 @@
-use Rattle.std.proofs.Common.{◌-◌, ◌≤◌}
+use Rattle.std.proofs.Common.{◌≡◌, ◌-◌, ◌≤◌, is_some, vec_len}
 use Rattle.std.specs.Io.KnownBytes.{Consumes}
-use Rattle.std.proofs.Common.{vec_len}
-use Rattle.acl_outside.specs.Outside.{NotFallen}
 use Rattle.esis_lines.proofs.input.read_all.Given as goal
 
--- the bytes taken so far are the first of those that were to come, and no more than are asked for
+-- The bytes taken so far are the first of those that were to come, and no more than are asked for. No fault was counted.
 abbrev pub invariant-reads : goal.invariant-reads
 invariant-reads g l = record {
   taken : Consumes (g.Q.Source.left l.initial.source) (g.Q.Source.left l.source) l.bytes.items;
   in_range : vec_len l.bytes ≤ l.most;
-  count : NotFallen (g.Q.Source.faults l.initial.source) (g.Q.Source.faults l.source);
+  quiet : g.Q.Source.faults l.source ≡ g.Q.Source.faults l.initial.source;
+  telling : is_some (g.Q.Source.left l.source) ≡ is_some (g.Q.Source.left l.initial.source);
 }
 
 abbrev pub decreases-reads : goal.decreases-reads

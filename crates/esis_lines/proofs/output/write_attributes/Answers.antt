@@ -1,14 +1,12 @@
+use Rattle.std.proofs.Common.{ap}
 use Rattle.acl_model.specs.Ascii.{capital_a}
 use Rattle.acl_model.specs.Text.{line}
-use Rattle.esis_lines.proofs.Parts.{on_err, part-next, missing-next}
+use Rattle.acl_outside.proofs.Remaining.{Writes-cut_part}
 use Rattle.esis_lines.proofs.output.write_attributes.Goals as goal
 
-pub returns-in_err-write_line-clause-part : goal.returns-in_err-write_line-clause-part
-returns-in_err-write_line-clause-part g c =
-    on_err _ (part-next (line capital_a) _ _ _ _ _ _ c.loop-attribute-test.true c.attribute-item.is c.loop-attribute.invariant.way
-    (rw c.as_slice.ensures at c.in_err-write_line.ensures.part))
-
-pub returns-in_err-write_line-clause-missed : goal.returns-in_err-write_line-clause-missed
-returns-in_err-write_line-clause-missed g c =
-    on_err _ (missing-next (line capital_a) _ _ _ _ _ _ _ c.loop-attribute-test.true c.attribute-item.is c.loop-attribute.invariant.way
-    (rw c.as_slice.ensures at c.in_err-write_line.ensures.missed))
+pub returns-in_err-write_line : goal.returns-in_err-write_line
+returns-in_err-write_line g c = record {
+  written = Writes-cut_part (line capital_a) _ _ _ c.from_residual.ensures.0 c.loop-attribute.invariant
+      c.write_line.ensures.written c.branch-write_line.ensures c.in_err-write_line.is
+      c.loop-attribute-test.true c.attribute-item.is (ap (line capital_a) c.as_slice.ensures);
+}

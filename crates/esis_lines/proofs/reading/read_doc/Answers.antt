@@ -1,11 +1,11 @@
 use Rattle.std.proofs.Common.{ℕ, List, subst}
 use Rattle.esis_lines.specs.Answers.{ButForMemory}
-use Rattle.esis_lines.specs.Reading.{read_doc_of}
+use Rattle.esis_lines.specs.Machine.{read_doc_of}
 use Rattle.esis_lines.proofs.Answering.{whole_answer, whole_taken, too_many}
 use Rattle.esis_lines.proofs.reading.read_doc.Goals as goal
 
 pub returns-in-Ok-clause-document : goal.returns-in-Ok-clause-document
-returns-in-Ok-clause-document g c = whole_answer (g.Q.Source.left c.args.source.now) (g.Q.Source.left c.read_all.new.source) c.in-Ok.bytes c.document_of.result 33554432 c.in-Ok.ensures.whole c.in-Ok.ensures.end (subst (λ (bs : List ℕ). ButForMemory c.document_of.result (read_doc_of bs)) c.as_slice.ensures c.document_of.ensures)
+returns-in-Ok-clause-document g c = whole_answer (g.Q.Source.left c.args.source.now) (g.Q.Source.left c.read_all.new.source) c.in-Ok.bytes c.document_of.result 33554432 c.in-Ok.ensures.whole c.in-Ok.ensures.end c.in-Ok.ensures.bytes (subst (λ (bs : List ℕ). ButForMemory c.document_of.result (read_doc_of bs)) c.as_slice.ensures c.document_of.ensures)
 
 pub returns-in-Ok-clause-taken : goal.returns-in-Ok-clause-taken
 returns-in-Ok-clause-taken g c = whole_taken c.document_of.result (g.Q.Source.left c.args.source.now) (g.Q.Source.left c.read_all.new.source) c.in-Ok.bytes 33554432 c.in-Ok.ensures.whole c.in-Ok.ensures.end c.in-Ok.ensures.within
