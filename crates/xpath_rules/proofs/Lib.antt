@@ -1,0 +1,13 @@
+pub mod Runs
+pub mod Tables
+pub mod Names
+pub mod SoFar
+pub mod Soundness
+pub mod PathSoundness
+pub mod TestRuns
+pub mod CmpRuns
+pub mod PathRuns
+pub mod Completion
+pub mod Places
+pub mod RoundTrip
+pub mod Counts

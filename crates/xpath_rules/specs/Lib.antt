@@ -1,0 +1,7 @@
+pub mod Marks
+pub mod Grammar
+pub mod Reading
+pub mod Machine
+pub mod Answers
+pub mod Canonical
+pub mod Counting

@@ -1,0 +1,25 @@
+//! The quotes of a literal.
+
+ghost use Rattle.std.specs.Prelude.{◌≡◌};
+
+/// Which of the two quotes stands round a literal (XPath 1.0, 3.7).
+#[derive(Clone, Copy)]
+pub enum Quote {
+    /// `"`
+    Double,
+    /// `'`
+    Single,
+}
+
+impl Quote {
+    ghost use Rattle.xpath_rules.specs.Grammar.{quote_byte};
+
+    pub fn byte(self) -> u8
+        ensures { result ≡ quote_byte self }
+    {
+        match self {
+            Quote::Double => b'"',
+            Quote::Single => b'\'',
+        }
+    }
+}

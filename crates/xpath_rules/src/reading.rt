@@ -1,0 +1,49 @@
+//! From bytes to a path: one pass, in which each byte is looked at once.
+
+ghost use Rattle.std.specs.Prelude.{◌≤◌, length, IfOk, OnOk};
+ghost use Rattle.xpath_rules.specs.Reading.{most_path_bytes, Spells, IsPlace};
+ghost use Rattle.xpath_rules.specs.Machine.{read_path_of};
+ghost use Rattle.xpath_rules.specs.Answers.{ButForMemory, IfFault, IsNoPath};
+
+use crate::path_error::PathError;
+use crate::state::State;
+use acl_model::Path;
+use std::alloc::Global;
+
+/// The most bytes of a path.
+pub const MOST_PATH_BYTES: u32 = 1024;
+
+/// What the machine makes of the bytes.
+fn path_of(alloc: Global, bytes: &[u8], user: &[u8]) -> Result<Path, PathError>
+    ensures { ButForMemory result (read_path_of bytes.now user.now) }
+{
+    let mut state = State::Start;
+    let mut at = 0;
+    for byte in bytes {
+        if at >= MOST_PATH_BYTES {
+            return Err(PathError::Fault { at });
+        }
+        let Some(next) = state.take(alloc, user, *byte)? else {
+            return Err(PathError::Fault { at });
+        };
+        state = next;
+        at += 1;
+    }
+    let Some(path) = state.finish()? else {
+        return Err(PathError::Fault { at });
+    };
+    Ok(path)
+}
+
+/// Reads a path, with `USER` standing for this user.
+pub fn read_path(alloc: Global, bytes: &[u8], user: &[u8]) -> Result<Path, PathError>
+    ensures exact { ButForMemory result (read_path_of bytes.now user.now) }
+
+    // Both answers in the grammar's own terms.
+    ensures spelled { IfOk result (λ path. Spells user.now bytes.now path) }
+    ensures within { OnOk result (length bytes.now ≤ most_path_bytes) }
+    ensures refused { IfFault result (λ at. IsNoPath user.now bytes.now) }
+    ensures place { IfFault result (λ at. IsPlace bytes.now at) }
+{
+    path_of(alloc, bytes, user)
+}
