@@ -1,0 +1,6 @@
+pub mod BodyLaws
+pub mod LimitLaws
+pub mod PathLaws
+pub mod SayingLaws
+pub mod WrittenBody
+pub mod WrittenParts

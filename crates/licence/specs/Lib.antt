@@ -1,0 +1,3 @@
+pub mod ChildPath
+pub mod BodyText
+pub mod Body
