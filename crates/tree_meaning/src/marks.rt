@@ -1,0 +1,166 @@
+//! How far each rule has come on the way down to an element: its steps, each with the mark whether it leads there.
+
+ghost use Rattle.std.specs.Prelude.{◌≡◌, ◌&&◌, IfOk, map, ◌++◌, true, None};
+ghost use Rattle.std.specs.Option.{option_map_or, option_copied};
+ghost use Rattle.std.specs.List.{list_any, flat_map};
+ghost use Rattle.tree_meaning.specs.Marks.{marked_step, marked_steps, begun_rule, begun_steps, leads_from, reaches, row_below, mark_below, selects_here, denies_here, sign_here};
+
+use crate::predicate::does_keep;
+use acl_model::{Axis, Element, Rule, Sign, Step};
+use std::alloc::{AllocError, Global};
+
+/// Whether the steps up to one lead to an element.
+#[derive(Clone, Copy)]
+pub struct Mark {
+    /// To the element itself.
+    pub here: bool,
+    /// To the element, or to an ancestor of it.
+    pub above: bool,
+}
+
+/// A step of a rule, and how far it has come.
+#[derive(Clone, Copy)]
+pub struct Progress<'a> {
+    /// `None` is the virtual root, at which each rule begins.
+    pub step: Option<&'a Step>,
+    /// The sign of the rule, where this is its last step.
+    pub ends: Option<Sign>,
+    pub mark: Mark,
+}
+
+/// Each rule at the virtual root, above the document, one behind another.
+#[tactic(auto, using(crate::proofs::Lists::list_steps))]
+pub fn all_begun<'a>(alloc: Global, rules: &'a [Rule]) -> Result<Vec<Progress<'a>>, AllocError>
+    ensures { IfOk result (λ row. marked_steps row.items ≡ flat_map begun_rule rules.now) }
+{
+    let mut row = Vec::new(alloc);
+    for rule in rules {
+        begin(&mut row, rule.sign, rule.path.steps.as_slice())?;
+    }
+    Ok(row)
+}
+
+/// Adds the steps of a rule, as they stand at the virtual root.
+#[tactic(auto, using(crate::proofs::Lists::list_steps))]
+fn begin<'a>(row: &mut Vec<Progress<'a>>, sign: Sign, steps: &'a [Step]) -> Result<(), AllocError>
+    ensures { IfOk result (λ done. marked_steps row.new.items
+        ≡ marked_steps row.old.items ++ begun_steps sign None true steps.now) }
+{
+    let mut step = None;
+    let mut here = true;
+    for next in steps {
+        row.push(Progress {
+            step,
+            ends: None,
+            mark: Mark { here, above: here },
+        })?;
+        step = Some(next);
+        here = false;
+    }
+    row.push(Progress {
+        step,
+        ends: Some(sign),
+        mark: Mark { here, above: here },
+    })?;
+    Ok(())
+}
+
+fn does_lead_from(axis: Axis, before: Mark) -> bool
+    ensures { result ≡ leads_from axis before }
+{
+    match axis {
+        Axis::Child => before.here,
+        Axis::Descendant => before.above,
+    }
+}
+
+/// Whether the step leads to the element. It is looked at only where the step before led to it.
+fn does_reach(step: Option<&Step>, before: Mark, element: &Element) -> bool
+    ensures { result ≡ reaches (option_copied step.entry) before element.now }
+{
+    match step {
+        Some(step) => does_lead_from(step.axis, before) && does_keep(step, element),
+        None => false,
+    }
+}
+
+fn below(here: bool, mark: Mark) -> Mark
+    ensures { result ≡ mark_below here mark }
+{
+    Mark {
+        here,
+        above: here || mark.above,
+    }
+}
+
+/// All rules one element further down.
+#[tactic(auto, using(crate::proofs::Lists::list_steps), unfolding(crate::specs::Marks::row_below))]
+pub fn all_below<'a>(
+    alloc: Global,
+    row: &[Progress<'a>],
+    element: &Element,
+) -> Result<Vec<Progress<'a>>, AllocError>
+    ensures { IfOk result (λ moved.
+        marked_steps moved.items ≡ row_below element.now (marked_steps row.now)) }
+{
+    let mut moved = Vec::with_capacity(alloc, row.len())?;
+    let mut before = Mark {
+        here: false,
+        above: false,
+    };
+    for progress in row {
+        let here = does_reach(progress.step, before, element);
+        before = progress.mark;
+        moved.push(Progress {
+            step: progress.step,
+            ends: progress.ends,
+            mark: below(here, progress.mark),
+        })?;
+    }
+    Ok(moved)
+}
+
+fn does_select(progress: &Progress<'_>) -> bool
+    ensures { result ≡ selects_here (marked_step progress.now) }
+{
+    match progress.ends {
+        Some(_) => progress.mark.here,
+        None => false,
+    }
+}
+
+fn does_deny(progress: &Progress<'_>) -> bool
+    ensures { result ≡ denies_here (marked_step progress.now) }
+{
+    match progress.ends {
+        Some(Sign::Deny) => progress.mark.here,
+        Some(Sign::Grant) => false,
+        None => false,
+    }
+}
+
+fn does_any_select(row: &[Progress<'_>]) -> bool
+    ensures { result ≡ list_any (λ p. selects_here (marked_step p)) row.now }
+{
+    row.iter().any(|progress| does_select(progress))
+}
+
+fn does_any_deny(row: &[Progress<'_>]) -> bool
+    ensures { result ≡ list_any (λ p. denies_here (marked_step p)) row.now }
+{
+    row.iter().any(|progress| does_deny(progress))
+}
+
+/// The sign of an element: by the rules that select it, where there is one, and else that of its parent.
+#[tactic(auto, using(crate::proofs::Lists::any_map), unfolding(crate::specs::Marks::sign_here))]
+pub fn sign_of(row: &[Progress<'_>], above: Sign) -> Sign
+    ensures { result ≡ sign_here (marked_steps row.now) above }
+{
+    if !does_any_select(row) {
+        above
+    } else if does_any_deny(row) {
+        Sign::Deny
+    } else {
+        Sign::Grant
+    }
+}

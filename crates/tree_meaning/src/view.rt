@@ -1,0 +1,117 @@
+//! The authorised view of a document, by one walk over it that carries how far each rule has come.
+
+ghost use Rattle.std.specs.Prelude.{◌≡◌, [], ◌∷◌, IfOk};
+ghost use Rattle.std.specs.Option.{option_to_list};
+ghost use Rattle.acl_model.specs.View.{view, view_by_sign, with_text};
+ghost use Rattle.acl_model.proofs.ViewEquations.{is_filled};
+ghost use Rattle.tree_meaning.specs.Marks.{marked_steps, view_from, item_view};
+
+use crate::marks::{Progress, all_begun, all_below, sign_of};
+use acl_model::{Bytes, Doc, Element, Item, Name, Rule, Sequence, Sign};
+use acl_outside::NoMemory;
+use sqlite_items::Items;
+use std::alloc::{AllocError, Global};
+
+/// A text of an element, where the element is granted.
+fn text_in_view(alloc: Global, own: Sign, bytes: &Bytes) -> Result<Option<Item>, AllocError>
+    ensures { IfOk result (λ v. option_to_list v ≡ with_text own bytes.now []) }
+{
+    match own {
+        Sign::Grant => Ok(Some(Item::Text(Bytes::from_slice(alloc, bytes.as_slice())?))),
+        Sign::Deny => Ok(None),
+    }
+}
+
+#[tactic(auto, using(crate::proofs::Lists::list_steps))]
+fn copy_of(alloc: Global, attributes: &[Bytes]) -> Result<Sequence<Bytes>, AllocError>
+    ensures { IfOk result (λ copy. copy ≡ attributes.now) }
+{
+    let mut copy = Vec::new(alloc);
+    for attribute in attributes {
+        copy.push(Bytes::from_slice(alloc, attribute.as_slice())?)?;
+    }
+    Ok(Sequence::from_vec(copy))
+}
+
+fn dummy(alloc: Global, items: Items<Item>) -> Result<Element, AllocError>
+    ensures { IfOk result (λ e. e ≡ record { name = 45 ∷ []; attributes = []; items = items }) }
+{
+    Ok(Element {
+        name: Name::from_slice(alloc, b"-")?,
+        attributes: Sequence::new(alloc),
+        items,
+    })
+}
+
+/// What an element of this sign leaves in the view, from what its items leave.
+fn element_with(
+    alloc: Global,
+    own: Sign,
+    element: &Element,
+    items: Items<Item>,
+) -> Result<Option<Element>, AllocError>
+    ensures { IfOk result (λ v. v ≡
+        view_by_sign own (is_filled items) element.now.name element.now.attributes items) }
+{
+    match own {
+        Sign::Grant => Ok(Some(Element {
+            name: Name::from_slice(alloc, element.name.as_slice())?,
+            attributes: copy_of(alloc, element.attributes.as_slice())?,
+            items,
+        })),
+        Sign::Deny if items.is_empty() => Ok(None),
+        Sign::Deny => Ok(Some(dummy(alloc, items)?)),
+    }
+}
+
+#[cycle(view)]
+#[tactic(auto, using(crate::proofs::Lists::list_steps, crate::proofs::ViewLaws::view_from_is))]
+fn element_in_view(
+    alloc: Global,
+    row: &[Progress<'_>],
+    above: Sign,
+    element: &Element,
+) -> Result<Option<Element>, AllocError>
+    ensures { IfOk result (λ v. v ≡ view_from (marked_steps row.now) above element.now) }
+{
+    let row = all_below(alloc, row, element)?;
+    let own = sign_of(row.as_slice(), above);
+    let mut items = Vec::new(alloc);
+    for item in element.items.as_slice() {
+        if let Some(part) = item_in_view(alloc, row.as_slice(), own, item)? {
+            items.push(part)?;
+        }
+    }
+    element_with(alloc, own, element, Items::from_vec(items))
+}
+
+#[cycle(view)]
+#[tactic(auto, using(crate::proofs::ViewLaws::item_view_equations))]
+fn item_in_view(
+    alloc: Global,
+    row: &[Progress<'_>],
+    own: Sign,
+    item: &Item,
+) -> Result<Option<Item>, AllocError>
+    ensures { IfOk result
+        (λ v. option_to_list v ≡ item_view (marked_steps row.now) own item.now) }
+{
+    match item {
+        Item::Text(bytes) => text_in_view(alloc, own, bytes),
+        Item::Child(element) => match element_in_view(alloc, row, own, element)? {
+            Some(part) => Ok(Some(Item::Child(part))),
+            None => Ok(None),
+        },
+    }
+}
+
+/// The authorised view of a document; nothing, where nothing is granted.
+pub fn view_tree(alloc: Global, doc: &Doc, rules: &[Rule]) -> Result<Option<Doc>, NoMemory>
+    ensures exact { IfOk result (λ v. v ≡ view doc.now rules.now) }
+{
+    let row = all_begun(alloc, rules)?;
+    match element_in_view(alloc, row.as_slice(), Sign::Deny, &doc.root)? {
+        Some(root) => Ok(Some(Doc { root })),
+        None => Ok(None),
+    }
+}
