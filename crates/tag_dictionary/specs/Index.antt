@@ -1,0 +1,18 @@
+-- What the map behind a dictionary holds: the number of each name. This project's own.
+use Rattle.std.specs.Prelude.{◌≡◌, ℕ, ◌≤◌, nat_eq, true, Option, Vec, List, length}
+use Rattle.std.specs.Cmp.Lexicographic.{pointwise}
+use Rattle.std.specs.List.{list_all}
+use Rattle.std.specs.HashMap.{HashMap, get_by}
+use Rattle.acl_model.specs.Names.{is_name}
+use Rattle.acl_model.specs.Dictionary.{name_number, are_distinct}
+
+-- the number that the map has for a name
+abbrev pub number_in : {A H : Type 0} → HashMap (Vec ℕ A) ℕ H → List ℕ → Option ℕ
+number_in numbers name = get_by (λ key. pointwise nat_eq name key.items) numbers
+
+-- The map has the number of each name and of nothing else, and the names are at most 256, no two the same.
+pub record IsIndex {A H : Type 0} (numbers : HashMap (Vec ℕ A) ℕ H) (names : List (List ℕ)) : Type 0 where
+  pub numbered : (name : List ℕ) → number_in numbers name ≡ name_number names name
+  pub few : length names ≤ 256
+  pub apart : are_distinct names ≡ true
+  pub named : list_all is_name names ≡ true

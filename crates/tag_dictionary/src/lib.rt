@@ -1,0 +1,13 @@
+//! The names of a document by number, and their numbers by name.
+#![tactic(auto)]
+
+mod dictionary;
+mod fault;
+mod laws;
+
+pub use dictionary::Dictionary;
+pub use fault::{DictFault, TagFault};
+pub use laws::a_section_is_of_one_dictionary;
+
+#[cfg(test)]
+mod tests;
