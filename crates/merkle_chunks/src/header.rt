@@ -1,0 +1,101 @@
+//! The header: 64 bytes before the fragments. It is read by its numbers and written again, and what isn't the same is no
+//! header: so each byte is looked at, and no sum wraps.
+
+ghost use Rattle.std.specs.Prelude.{◌≡◌, ◌≢◌, ◌↔◌, IsTrue, IsErr, IfOk};
+ghost use Rattle.merkle_chunks.specs.HeaderBytes.{IsInRange, header_bytes, fragment_count};
+ghost use Rattle.merkle_chunks.specs.declared.header.Header.{Header};
+
+/// What each file begins with.
+const MAGIC: &[u8; 8] = b"SKIPIDX1";
+
+/// The most bytes that tree and dictionary have together.
+const MOST: u64 = 33_554_432;
+
+/// The numbers of a file.
+#[derive(Clone, Copy, Debug, PartialEq, Eq)]
+pub struct Header {
+    /// The bytes of the tree section.
+    pub tree: u64,
+    /// The bytes of the dictionary section.
+    pub dictionary: u32,
+    /// The number of names.
+    pub tags: u16,
+    /// The greatest number of open elements.
+    pub depth: u16,
+    /// By these a reader sees that the document key is the right one.
+    pub check: [u8; 16],
+}
+
+/// The bytes are no header.
+#[derive(Clone, Copy, Debug, PartialEq, Eq)]
+pub struct BadHeader;
+
+impl Header {
+    /// The bytes of the header.
+    pub fn write(&self) -> [u8; 64]
+        requires { IsInRange self.now }
+        ensures { result ≡ header_bytes self.now }
+    {
+        let mut bytes = [0; 64];
+        bytes[..8].copy_from_slice(MAGIC);
+        bytes[8..16].copy_from_slice(&self.tree.to_be_bytes());
+        bytes[16..20].copy_from_slice(&self.dictionary.to_be_bytes());
+        bytes[20..22].copy_from_slice(&self.tags.to_be_bytes());
+        bytes[22..24].copy_from_slice(&self.depth.to_be_bytes());
+        bytes[24..40].copy_from_slice(&self.check);
+        bytes
+    }
+
+    /// Reads a header. `BadHeader` comes exactly where the bytes are none.
+    pub fn read(bytes: &[u8; 64]) -> Result<Header, BadHeader>
+        ensures range { IfOk result (λ h. IsInRange h) }
+        ensures bytes { IfOk result (λ h. header_bytes h ≡ bytes.now) }
+        ensures bad { IsErr result → (h : Header) → IsInRange h → header_bytes h ≢ bytes.now }
+    {
+        let header = Header::at_its_places(bytes);
+        if !header.is_in_range() || header.write() != *bytes {
+            return Err(BadHeader);
+        }
+        Ok(header)
+    }
+
+    /// The number of fragments of 256 bytes, the last one filled with zeros.
+    pub fn fragments(&self) -> u32
+        requires { IsInRange self.now }
+        ensures { result ≡ fragment_count self.now }
+    {
+        (self.tree + u64::from(self.dictionary)).div_ceil(256) as u32
+    }
+
+    /// Whether the numbers are in their ranges.
+    fn is_in_range(&self) -> bool
+        ensures { IsTrue result ↔ IsInRange self.now }
+    {
+        self.tree >= 1
+            && self.tags >= 1
+            && self.tags <= 256
+            && self.dictionary >= 2 + 2 * u32::from(self.tags)
+            && self.depth >= 1
+            && self.depth <= 255
+            && self.tree <= MOST
+            && self.tree + u64::from(self.dictionary) <= MOST
+    }
+
+    /// The numbers that stand at the places of a header's. Where the bytes are a header, it is that one.
+    fn at_its_places(bytes: &[u8; 64]) -> Header
+        ensures { (h : Header) → IsInRange h → header_bytes h ≡ bytes.now → result ≡ h }
+    {
+        let mut check = [0; 16];
+        check.copy_from_slice(&bytes[24..40]);
+        Header {
+            tree: u64::from_be_bytes([
+                bytes[8], bytes[9], bytes[10], bytes[11], bytes[12], bytes[13], bytes[14],
+                bytes[15],
+            ]),
+            dictionary: u32::from_be_bytes([bytes[16], bytes[17], bytes[18], bytes[19]]),
+            tags: u16::from_be_bytes([bytes[20], bytes[21]]),
+            depth: u16::from_be_bytes([bytes[22], bytes[23]]),
+            check,
+        }
+    }
+}
