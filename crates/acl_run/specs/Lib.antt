@@ -1,10 +1,8 @@
-pub mod Body
-pub mod BodyText
-pub mod ChildPath
-pub mod Lines
-pub mod Live
-pub mod Outcome
-pub mod Pieces
+pub mod Command
+pub mod Objects
 pub mod Preview
-pub mod Ways
+pub mod Reading
+pub mod Request
+pub mod Texts
 pub mod Words
+pub mod Work

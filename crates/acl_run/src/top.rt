@@ -1,13 +1,22 @@
 //! The top call: the words say what is asked for, and each object of the outside is handed in. One outcome comes back,
-//! and each fault that it names is one that the object counted.
+//! as the order of work of the command has it, and each fault that it names is one that the object counted.
 
-ghost use Rattle.std.specs.Prelude.{◌≡◌, ◌↔◌, None, IfSome, map, string_bytes};
+ghost use Rattle.std.specs.Prelude.{◌≡◌, ◌↔◌, ◌+◌, None, IsTrue, IfSome, IfNone, map, string_bytes};
+ghost use Rattle.std.specs.Bool.{OnTrue, OnFalse};
+ghost use Rattle.std.specs.Io.KnownBytes.{IsAtEnd};
+ghost use Rattle.acl_outside.specs.Outside.{AreAllSettled};
+ghost use Rattle.esis_lines.specs.Answers.{TakesUpTo};
+ghost use Rattle.acl_outcome.specs.Ends.{Object, end_of, is_fault_of};
+ghost use Rattle.acl_run.specs.Objects.{LeavesSource, LeavesSink, LeavesStore};
+ghost use Rattle.acl_run.specs.Texts.{WritesText, WritesNote, WhereWhole, due_out, due_note};
 ghost use Rattle.acl_run.specs.Words.{words_of};
-ghost use Rattle.acl_run.specs.Preview.{view_text, Faults, Caused, ByRules, ByDocument, Writes, StaysUnwritten, ReadToEnd, OnUsage};
+ghost use Rattle.acl_run.specs.Work.{steps_of, Follows, may_end, uses, keys_for, input_for};
+ghost use Rattle.acl_run.specs.Work.{is_behind_keys, is_behind_input, precedes_input};
+ghost use Rattle.acl_run.specs.Work.{keys_limit, input_limit, precedes_output};
 
-use crate::outcome::Outcome;
 use crate::preview::preview;
-use crate::words::{Command, read_words};
+use crate::words::{Request, read_words};
+use acl_outcome::Outcome;
 use acl_outside::{Sink, Source, Store};
 use std::alloc::Global;
 
@@ -16,6 +25,7 @@ use std::alloc::Global;
 /// `preview RULES` reads a licence body from `keys`, at most 131,072 bytes, and then a document from `input`, at most
 /// 33,554,432 bytes, and writes the authorised view to `out`. It uses neither `store` nor `note`. The rules are refused
 /// before the input is read, and the input before the first byte is written.
+#[tactic(auto, using(crate::proofs::Steps::tops))]
 pub fn run<K: Source, Q: Source, S: Store, W: Sink, N: Sink>(
     alloc: Global,
     words: &[String],
@@ -25,31 +35,70 @@ pub fn run<K: Source, Q: Source, S: Store, W: Sink, N: Sink>(
     out: &mut W,
     note: &mut N,
 ) -> Outcome
-    // Other words are a faulty command line, for which nothing is read or written.
+    // Other words are no command line, and nothing is touched then.
     ensures usage { (result ≡ Outcome.Usage) ↔ (words_of (map string_bytes words.now) ≡ None) }
-    ensures usage_touches_nothing { OnUsage result ((keys.new ≡ keys.old) × (input.new ≡ input.old) × (out.new ≡ out.old)) }
+    ensures untouched { IfNone (words_of (map string_bytes words.now)) ((keys.new ≡ keys.old)
+        × (input.new ≡ input.old) × (store.new ≡ store.old) × (out.new ≡ out.old)
+        × (note.new ≡ note.old)) }
 
-    // Each fault is that of the object it names.
-    ensures cause { Caused result
-        (record { before = K.faults keys.old; after = K.faults keys.new })
-        (record { before = Q.faults input.old; after = Q.faults input.new })
-        (record { before = W.faults out.old; after = W.faults out.new }) }
+    // Each refusal and each fault comes exactly where the order of work has it.
+    ensures order { IfSome (words_of (map string_bytes words.now)) (λ c.
+        Follows (steps_of c (K.left keys.old) (Q.left input.old)) result) }
+    ensures ends { IfSome (words_of (map string_bytes words.now))
+        (λ c. IsTrue (may_end c result)) }
 
-    // What was read.
-    ensures rules { IfSome (K.left keys.old) (λ rules. ByRules result rules) }
-    ensures document { IfSome (Q.left input.old) (λ lines. ByDocument result lines) }
-    ensures to_the_end { ReadToEnd result (K.left keys.new) (Q.left input.new) }
+    // What is written: the texts that are due, and nothing before the first byte of them.
+    ensures text { IfSome (words_of (map string_bytes words.now)) (λ c.
+        IfSome (keys_for c (K.left keys.old)) (λ rules.
+        IfSome (input_for c (Q.left input.old)) (λ lines. WritesText (end_of result)
+        (W.written out.old) (W.written out.new) (due_out c rules lines)))) }
+    ensures note_text { IfSome (words_of (map string_bytes words.now)) (λ c.
+        IfSome (keys_for c (K.left keys.old)) (λ rules.
+        IfSome (input_for c (Q.left input.old)) (λ lines. WritesNote (end_of result)
+        (N.written note.old) (N.written note.new) (due_note c rules lines)))) }
+    ensures settled { WhereWhole (end_of result)
+        (AreAllSettled (W.settled out.new) (W.written out.new)) }
+    ensures unwritten { IfSome (words_of (map string_bytes words.now))
+        (λ c. OnTrue (precedes_output c (end_of result)) (out.new ≡ out.old)) }
 
-    // What was written: the authorised view, whole or a front part; and nothing before the first byte of it.
-    ensures view { IfSome (K.left keys.old) (λ rules. IfSome (Q.left input.old)
-        (λ lines. Writes result (W.written out.old) (W.written out.new) (view_text rules lines))) }
-    ensures unwritten { StaysUnwritten result (W.written out.old) (W.written out.new) }
+    // What is read: each source to its end, or one byte past its limit, and the input only behind good keys.
+    ensures keys_read { IfSome (words_of (map string_bytes words.now)) (λ c.
+        OnTrue (is_behind_keys c (end_of result))
+        (TakesUpTo (keys_limit c + 1) (K.left keys.old) (K.left keys.new))) }
+    ensures input_read { IfSome (words_of (map string_bytes words.now)) (λ c.
+        OnTrue (is_behind_input c (end_of result))
+        (TakesUpTo (input_limit c + 1) (Q.left input.old) (Q.left input.new))) }
+    ensures keys_end { IfSome (words_of (map string_bytes words.now)) (λ c.
+        OnTrue (uses c Object.keys) (WhereWhole (end_of result) (IsAtEnd (K.left keys.new)))) }
+    ensures input_end { IfSome (words_of (map string_bytes words.now)) (λ c.
+        OnTrue (uses c Object.input) (WhereWhole (end_of result) (IsAtEnd (Q.left input.new)))) }
+    ensures unread { IfSome (words_of (map string_bytes words.now))
+        (λ c. OnTrue (precedes_input c (end_of result)) (input.new ≡ input.old)) }
 
-    ensures same_store { store.new ≡ store.old }
-    ensures same_note { note.new ≡ note.old }
+    // Each object counts a fault exactly where it is named, and an object that is not used stays as it was.
+    ensures keys { IfSome (words_of (map string_bytes words.now)) (λ c.
+        LeavesSource K.left K.faults (is_fault_of Object.keys (end_of result)) (keys_limit c)
+        keys.old keys.new) }
+    ensures input { IfSome (words_of (map string_bytes words.now)) (λ c.
+        LeavesSource Q.left Q.faults (is_fault_of Object.input (end_of result)) (input_limit c)
+        input.old input.new) }
+    ensures store { LeavesStore S.holds S.served S.faults
+        (is_fault_of Object.store (end_of result)) store.old store.new }
+    ensures out { LeavesSink W.written W.missed W.settled W.faults
+        (is_fault_of Object.out (end_of result)) out.old out.new }
+    ensures note { LeavesSink N.written N.missed N.settled N.faults
+        (is_fault_of Object.note (end_of result)) note.old note.new }
+    ensures unused_keys { IfSome (words_of (map string_bytes words.now))
+        (λ c. OnFalse (uses c Object.keys) (keys.new ≡ keys.old)) }
+    ensures unused_input { IfSome (words_of (map string_bytes words.now))
+        (λ c. OnFalse (uses c Object.input) (input.new ≡ input.old)) }
+    ensures unused_store { IfSome (words_of (map string_bytes words.now))
+        (λ c. OnFalse (uses c Object.store) (store.new ≡ store.old)) }
+    ensures unused_note { IfSome (words_of (map string_bytes words.now))
+        (λ c. OnFalse (uses c Object.note) (note.new ≡ note.old)) }
 {
     match read_words(words) {
-        Some(Command::Preview) => preview(alloc, keys, input, out),
+        Some(Request::Preview) => preview(alloc, keys, input, out),
         None => Outcome::Usage,
     }
 }
