@@ -24,17 +24,17 @@ leads_among Descendant set nodes = list_any set nodes
 -- ---- an axis, over the answers for the ancestors
 
 -- whether an axis leads from one of these nodes, whose answers stand in their order
-abbrev any_of : Axis → List Bool → Bool
+abbrev pub any_of : Axis → List Bool → Bool
 any_of Child answers = list_any (λ b. b) (take 1 answers)
 any_of Descendant answers = list_any (λ b. b) answers
 
 -- the answer of one more ancestor, joined to that of all above it
-abbrev joined_answer : Axis → Bool → Bool → Bool
+abbrev pub joined_answer : Axis → Bool → Bool → Bool
 joined_answer Child near far = near
 joined_answer Descendant near far = near || far
 
 -- one more ancestor at the far end can be joined to the one before it
-any_of-joined : (axis : Axis) (answers : List Bool) (near far : Bool) → any_of axis ((answers ++ near ∷ []) ++ far ∷ []) ≡ any_of axis (answers ++ joined_answer axis near far ∷ [])
+pub any_of-joined : (axis : Axis) (answers : List Bool) (near far : Bool) → any_of axis ((answers ++ near ∷ []) ++ far ∷ []) ≡ any_of axis (answers ++ joined_answer axis near far ∷ [])
 any_of-joined Child [] near far = refl
 any_of-joined Child (b ∷ answers) near far = refl
 any_of-joined Descendant [] true far = refl
@@ -43,14 +43,14 @@ any_of-joined Descendant (true ∷ answers) near far = refl
 any_of-joined Descendant (false ∷ answers) near far = any_of-joined Descendant answers near far
 
 -- alone, the far end answers for itself
-any_of-one : (axis : Axis) (far : Bool) → any_of axis (far ∷ []) ≡ far
+pub any_of-one : (axis : Axis) (far : Bool) → any_of axis (far ∷ []) ≡ far
 any_of-one Child true = refl
 any_of-one Child false = refl
 any_of-one Descendant true = refl
 any_of-one Descendant false = refl
 
 -- the proper prefixes of a place, the longest first
-abbrev proper : List ℕ → List (List ℕ)
+abbrev pub proper : List ℕ → List (List ℕ)
 proper [] = []
 proper (k ∷ place) = map (λ prefix. k ∷ prefix) (proper place) ++ ([] ∷ [])
 
@@ -66,7 +66,7 @@ any_of_places Descendant set [] = refl
 any_of_places Descendant set (p ∷ places) = ap (λ b. set (Some p) || b) (any_of_places Descendant set places)
 
 -- `leads`, by answers
-leads_is : (axis : Axis) (set : NodeSet) (place : List ℕ) → leads axis set place ≡ any_of axis (map (λ m. set (Some m)) (proper place) ++ set None ∷ [])
+pub leads_is : (axis : Axis) (set : NodeSet) (place : List ℕ) → leads axis set place ≡ any_of axis (map (λ m. set (Some m)) (proper place) ++ set None ∷ [])
 leads_is Child set place = ap (λ ps. leads_among Child set (map Some (drop 1 ps) ++ None ∷ [])) (prefixes_are place) ∙ any_of_places Child set (proper place)
 leads_is Descendant set place = ap (λ ps. leads_among Descendant set (map Some (drop 1 ps) ++ None ∷ [])) (prefixes_are place) ∙ any_of_places Descendant set (proper place)
 
@@ -84,7 +84,7 @@ in_child_or_none : (st : Step) (set : ChainSet) (place : List ℕ) (up : Chain) 
 in_child_or_none st set place up answer test None told inside = and_false answer
 in_child_or_none st set place up answer test (Some c) told inside = inside c told
 
-map-snoc : (test : List ℕ → Bool) (k : ℕ) (places : List (List ℕ)) → map test (map (λ p. k ∷ p) places ++ ([] ∷ [])) ≡ map (λ p. test (k ∷ p)) places ++ test [] ∷ []
+pub map-snoc : (test : List ℕ → Bool) (k : ℕ) (places : List (List ℕ)) → map test (map (λ p. k ∷ p) places ++ ([] ∷ [])) ≡ map (λ p. test (k ∷ p)) places ++ test [] ∷ []
 map-snoc test k [] = refl
 map-snoc test k (p ∷ places) = ap (λ bs. test (k ∷ p) ∷ bs) (map-snoc test k places)
 

@@ -1,13 +1,11 @@
 -- What the words of values, numbers and comparisons say of single cases. Each computes.
-use Rattle.std.proofs.Common.{◌≡◌, ℕ, ℤ, pos, negsuc, Bool, true, false, Option, Some, None, List, [], ◌∷◌, codes, refl}
+use Rattle.std.proofs.Common.{◌≡◌, ℕ, pos, negsuc, true, false, Some, None, List, [], ◌∷◌, codes, refl}
 use Rattle.acl_model.specs.Numbers.{whole}
 use Rattle.acl_model.specs.NameTests.{passes}
 use Rattle.acl_model.specs.Values.{attribute_values}
 use Rattle.acl_model.specs.Comparisons.{satisfies}
 use Rattle.acl_model.specs.declared.document.Element.{Element}
-use Rattle.acl_model.specs.declared.path.Op.{Op}
 use Rattle.acl_model.specs.declared.path.Op.TheVariants.{Eq, Ne, Lt, Le, Gt, Ge}
-use Rattle.acl_model.specs.declared.path.Operand.{Operand}
 use Rattle.acl_model.specs.declared.path.Operand.TheVariants.{Text, Number, User}
 use Rattle.acl_model.specs.declared.path.Test.TheVariants.{Any, Named}
 

@@ -15,7 +15,7 @@ use Rattle.acl_model.specs.declared.document.Item.TheFolds.{ind-Element, map-Ite
 use Rattle.acl_model.specs.declared.rule.Sign.{Sign}
 use Rattle.acl_model.specs.declared.rule.Sign.TheVariants.{Grant, Deny}
 
-none_is_not_some : {A : Type 0} (x : A) → None ≡ Some x → ⊥
+pub none_is_not_some : {A : Type 0} (x : A) → None ≡ Some x → ⊥
 none_is_not_some x h = subst (λ o. MatchOption o (Unit {0}) (λ _. ⊥)) h tt
 
 same_within : {A : Type 0} (x y : A) → Some x ≡ Some y → x ≡ y
@@ -25,16 +25,16 @@ or_true : (a : Bool) → (a || true) ≡ true
 or_true true = refl
 or_true false = refl
 
-or_right : (a b : Bool) → b ≡ true → (a || b) ≡ true
+pub or_right : (a b : Bool) → b ≡ true → (a || b) ≡ true
 or_right a b so = ap (λ v. a || v) so ∙ or_true a
 
 has_grant_is : (e : Element) (signs : Signs) → (filter_of e).has_grant signs ≡ (is_grant (signs []) || grant_within (map filter_of_item e.items) signs 1)
 has_grant_is e signs = ap (λ s. s.has_grant signs) (filter_of_is e)
 
-children-Text : (bytes : List ℕ) (items : List Item) → children (Text bytes ∷ items) ≡ children items
+pub children-Text : (bytes : List ℕ) (items : List Item) → children (Text bytes ∷ items) ≡ children items
 children-Text bytes items = ap (λ o. cons_option o (children items)) (element_of-Text bytes)
 
-children-Child : (e : Element) (items : List Item) → children (Child e ∷ items) ≡ e ∷ children items
+pub children-Child : (e : Element) (items : List Item) → children (Child e ∷ items) ≡ e ∷ children items
 children-Child e items = ap (λ o. cons_option o (children items)) (element_of-Child e)
 
 -- ---- what is granted inside a child is granted within the items
@@ -86,7 +86,7 @@ Tells e = (signs : Signs) → (filter_of e).has_grant signs ≡ true → HasGran
 abbrev TellsItem : Item → Type 0
 TellsItem item = (e : Element) → element_of item ≡ Some e → Tells e
 
-either : (a b : Bool) → (a || b) ≡ true → (a ≡ true) ⊎ (b ≡ true)
+pub either : (a b : Bool) → (a || b) ≡ true → (a ≡ true) ⊎ (b ≡ true)
 either true b so = inl refl
 either false b so = inr so
 

@@ -14,3 +14,6 @@ pub mod ViewEquations
 pub mod GrantLaws
 pub mod ViewForms
 pub mod PlaceLaws
+pub mod Members
+pub mod ByChildren
+pub mod TargetLaws

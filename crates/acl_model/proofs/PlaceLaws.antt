@@ -1,11 +1,11 @@
 -- The places of a document are exactly those where an element stands, each once.
-use Rattle.std.proofs.Common.{◌≡◌, ℕ, suc, zero, ◌+◌, ◌<◌, Bool, true, false, ◌&&◌, nat_eq, Option, Some, None, is_some, List, [], ◌∷◌, ◌++◌, map, length, cond, refl, ap, sym, ◌∙◌, subst, add-one, zero-add, arith, length-append, if◌then◌else◌}
+use Rattle.std.proofs.Common.{◌≡◌, ℕ, suc, zero, ◌+◌, ◌<◌, Bool, true, false, ◌&&◌, nat_eq, Option, Some, None, is_some, List, [], ◌∷◌, ◌++◌, map, length, cond, refl, ap, sym, ◌∙◌, add-one, zero-add, arith, length-append, if◌then◌else◌}
 use Rattle.std.proofs.lemmas.Bool.Decides.{nat_tests}
 use Rattle.std.proofs.lemmas.List.Elements.{filter-append}
 use Rattle.std.specs.List.{filter, slice_get, cons_option}
 use Rattle.std.specs.Option.{option_and_then, option_map_or}
 use Rattle.std.specs.Cmp.Lexicographic.{pointwise}
-use Rattle.acl_model.specs.Places.{element_of, children, child, below, at, numbered, places_below, places_of_item, places, times, places_in_item, places_in_element}
+use Rattle.acl_model.specs.Places.{element_of, children, below, at, numbered, places_below, places_of_item, places, times, places_in_item, places_in_element}
 use Rattle.acl_model.proofs.ViewEquations.{item_cases, element_of-Text, element_of-Child}
 use Rattle.acl_model.specs.declared.document.Doc.{Doc}
 use Rattle.acl_model.specs.declared.document.Item.{Item}
@@ -35,7 +35,7 @@ pub ruleset place_equations = (places_below_is, places_of_item-Text, places_of_i
 times-append : (place : List ℕ) (xs ys : List (List ℕ)) → times place (xs ++ ys) ≡ times place xs + times place ys
 times-append place xs ys = ap length (filter-append (λ p. pointwise nat_eq p place) xs ys) ∙ length-append (filter (λ p. pointwise nat_eq p place) xs) (filter (λ p. pointwise nat_eq p place) ys)
 
-same_number : (k : ℕ) → nat_eq k k ≡ true
+pub same_number : (k : ℕ) → nat_eq k k ≡ true
 same_number k = grind (arith, nat_tests)
 
 other_number : (j k : ℕ) → j < k → nat_eq j k ≡ false

@@ -1,15 +1,15 @@
 -- The string-value of an element and of each kind of item, and the descendants of an element, as equations. A fold
 -- doesn't compute by itself, so proofs cite these.
-use Rattle.std.proofs.Common.{◌≡◌, ℕ, List, [], ◌∷◌, map, ap, sym, ◌∙◌, refl}
+use Rattle.std.proofs.Common.{◌≡◌, ℕ, List, [], ◌∷◌, map, ap, sym, ◌∙◌}
 use Rattle.std.proofs.lemmas.List.Folds.{flat_map-map}
 use Rattle.std.specs.List.{concat, flat_map}
 use Rattle.acl_model.specs.Values.{string_value, value_of_item}
 use Rattle.acl_model.specs.Predicates.{descendants, below_item, below_layer, below_element}
-use Rattle.acl_model.specs.declared.document.Item.{Item, out-Item, roll-Item, roll-out-Item}
-use Rattle.acl_model.specs.declared.document.Element.{Element, out-Element, roll-Element, roll-out-Element}
+use Rattle.acl_model.specs.declared.document.Item.{Item}
+use Rattle.acl_model.specs.declared.document.Element.{Element, out-Element, roll-out-Element}
 use Rattle.acl_model.specs.declared.document.Item.TheVariants.{Text, Child, rolls-Text, rolls-Child}
 use Rattle.acl_model.specs.declared.document.Item.TheOpen.{Item-F}
-use Rattle.acl_model.specs.declared.document.Item.TheFolds.{fold_out-Element, fold-roll-Item, para-roll-Item, para-roll-Element, para-Item}
+use Rattle.acl_model.specs.declared.document.Item.TheFolds.{fold_out-Element, fold-roll-Item, para-roll-Item, para-roll-Element}
 
 -- the string-value of an element, by its items
 pub string_value_is : (e : Element) → string_value e ≡ concat (map value_of_item e.items)

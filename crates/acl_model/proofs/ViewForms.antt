@@ -1,5 +1,5 @@
 -- The view of a document is a view document.
-use Rattle.std.proofs.Common.{◌≡◌, ℕ, ◌+◌, ◌≤◌, Bool, true, false, ◌&&◌, ◌||◌, nat_le, max, Option, Some, None, List, [], ◌∷◌, map, length, refl, ap, sym, ◌∙◌, subst, arith}
+use Rattle.std.proofs.Common.{◌≡◌, ℕ, ◌+◌, ◌≤◌, Bool, true, false, ◌&&◌, ◌||◌, nat_le, Option, Some, None, List, [], ◌∷◌, map, length, refl, ap, sym, ◌∙◌, subst, arith}
 use Rattle.std.proofs.lemmas.Bool.Decides.{nat_tests}
 use Rattle.std.specs.Cmp.{first_so, second_so}
 use Rattle.std.specs.List.{list_all}
@@ -11,7 +11,7 @@ use Rattle.acl_model.specs.Document.{is_raw_attribute, is_well_formed, item_well
 use Rattle.acl_model.specs.Places.{element_in, element_of}
 use Rattle.acl_model.specs.Decide.{sign}
 use Rattle.acl_model.specs.View.{Signs, in_child, filter_of, filter_of_item, grant_within, with_child, with_text, views, view_by_sign, doc_of, view}
-use Rattle.acl_model.proofs.FormEquations.{well_formed_is, item_well_formed-Text, item_well_formed-Child, height_is, height_of_item-Text, height_of_item-Child}
+use Rattle.acl_model.proofs.FormEquations.{well_formed_is, item_well_formed-Text, item_well_formed-Child, height_is, height_of_item-Child}
 use Rattle.acl_model.proofs.ViewEquations.{filter_of_is, filter_of_item-Text, filter_of_item-Child, item_cases, element_of-Child}
 use Rattle.acl_model.specs.declared.document.Doc.{Doc}
 use Rattle.acl_model.specs.declared.document.Item.{Item, roll-Item, out-roll-Item}

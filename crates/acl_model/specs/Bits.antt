@@ -1,5 +1,5 @@
 -- Two words on bits: the bits of a number, and the bytes of bits; the highest bit of each byte first. This project's
--- own. `acl_bits` has words of the same meaning; that they are equal is not proved yet.
+-- own. `acl_bits` has the same words for programs; a law of `skip_encode`, which stands on both, says so.
 use Rattle.std.specs.Prelude.{ℕ, zero, suc, ◌+◌, ◌-◌, ◌*◌, ◌/◌, ◌%◌, Bool, true, false, ◌==◌, List, [], ◌∷◌, ◌++◌, length, take, drop, replicate}
 use Rattle.std.specs.Int.{bit_at}
 

@@ -1,7 +1,10 @@
--- What `explain` tells: where signs come from (VLDB 2004, conflict resolution), element by element.
-use Rattle.std.specs.Prelude.{ℕ, Option, Some, None, Bool, true, false, ◌&&◌, ◌||◌, List, [], ◌∷◌, map}
-use Rattle.std.specs.List.{filter, position}
-use Rattle.std.specs.Option.{option_and_then}
+-- What `explain` tells: where signs come from (VLDB 2004, conflict resolution), element by element, and its lines. The
+-- lines are this project's format.
+use Rattle.std.specs.Prelude.{ℕ, Option, Some, None, Bool, true, false, ◌&&◌, ◌||◌, List, [], ◌∷◌, ◌++◌, map, codes, decimal}
+use Rattle.std.specs.List.{filter, position, slice_get, concat}
+use Rattle.std.specs.Option.{option_and_then, option_map_or}
+use Rattle.acl_model.specs.Ascii.{space, plus, hyphen, slash}
+use Rattle.acl_model.specs.Lines.{as_line}
 use Rattle.acl_model.specs.Places.{places}
 use Rattle.acl_model.specs.Select.{select}
 use Rattle.acl_model.specs.Decide.{is_selected, decider, sign}
@@ -52,3 +55,32 @@ is_explained d rules place = is_root place || is_selected d rules place
 -- what is told of a document, in document order
 abbrev pub explain : Doc → List Rule → List Explanation
 explain d rules = map (explanation_of d rules) (filter (is_explained d rules) (places d))
+
+-- ---- its lines
+
+-- '+' grants, and '-' denies.
+abbrev pub sign_byte : Sign → ℕ
+sign_byte Grant = plus
+sign_byte Deny = hyphen
+
+-- the id of the rule of this number, or 'closed' where no rule decides
+abbrev pub rule_word : List Rule → Option ℕ → List ℕ
+rule_word rules None = codes "closed"
+rule_word rules (Some number) = option_map_or (λ r. r.id) (slice_get rules number) []
+
+-- A place is '/' and a child number, in decimal, for each level below the root. The root's is '/'.
+abbrev pub place_text : List ℕ → List ℕ
+place_text [] = slash ∷ []
+place_text (k ∷ place) = concat (map (λ number. slash ∷ decimal number) (k ∷ place))
+
+-- A line is the sign, a space, the rule's id or 'closed', a space, and the place.
+abbrev pub explanation_line : List Rule → Explanation → List ℕ
+explanation_line rules told = as_line (sign_byte told.sign ∷ space ∷ (rule_word rules told.rule ++ (space ∷ place_text told.place)))
+
+-- the lines of explanations, in order
+abbrev pub explanation_lines : List Rule → List Explanation → List ℕ
+explanation_lines rules told = concat (map (explanation_line rules) told)
+
+-- what `explain` writes: a line for the root, and one for each element that a rule selects
+abbrev pub explain_text : Doc → List Rule → List ℕ
+explain_text d rules = explanation_lines rules (explain d rules)

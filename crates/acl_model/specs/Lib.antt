@@ -15,7 +15,7 @@ pub mod Numbers
 pub mod Comparisons
 pub mod Predicates
 pub mod Select
-pub mod ChildSteps
+pub mod Targets
 pub mod Decide
 pub mod Explain
 pub mod View

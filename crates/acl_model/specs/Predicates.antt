@@ -1,5 +1,5 @@
 -- Where a predicate holds (XPath 1.0, 2.4): at an element from which it reaches a value that satisfies it.
-use Rattle.std.specs.Prelude.{ℕ, Option, Some, None, Bool, true, List, [], ◌∷◌, ◌++◌, map}
+use Rattle.std.specs.Prelude.{ℕ, Option, Some, None, Bool, true, List, [], ◌∷◌}
 use Rattle.std.specs.List.{list_any, filter, flat_map}
 use Rattle.acl_model.specs.Places.{children}
 use Rattle.acl_model.specs.NameTests.{passes}

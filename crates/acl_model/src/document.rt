@@ -1,7 +1,7 @@
 //! A document: one root element, and in each element a name, raw attributes, and texts and elements in order.
 
 use crate::sequence::{Bytes, Name, Sequence};
-use sqlite_items::Items;
+use sqlite_items::{Boxed, Items};
 
 /// A document, or a view of one.
 #[derive(Debug, Drop)]
@@ -27,5 +27,5 @@ pub struct Element {
 pub enum Item {
     /// Bytes as they stood in their line, with their escapes.
     Text(Bytes),
-    Child(Element),
+    Child(Boxed<Element>),
 }

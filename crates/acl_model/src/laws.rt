@@ -3,11 +3,14 @@
 //! do nothing: their contracts are the laws.
 
 ghost use Rattle.std.specs.Prelude.{◌≡◌, ℕ, ◌^◌, ◌<◌, ◌≤◌, List, [], ◌∷◌, Some, true, is_some, if◌then◌else◌};
+ghost use Rattle.std.specs.List.{Contains};
 ghost use Rattle.acl_model.specs.Ascii.{are_bytes};
 ghost use Rattle.acl_model.specs.Document.{is_document, is_view_document};
 ghost use Rattle.acl_model.specs.Text.{text};
 ghost use Rattle.acl_model.specs.Places.{below, at, places, times};
+ghost use Rattle.acl_model.specs.Predicates.{targets};
 ghost use Rattle.acl_model.specs.Select.{select};
+ghost use Rattle.acl_model.specs.Targets.{way_leads};
 ghost use Rattle.acl_model.specs.Decide.{sign};
 ghost use Rattle.acl_model.specs.View.{Signs, filter_of, view};
 ghost use Rattle.acl_model.specs.Chain.{selects, on_chain, chain_at, chain_signs};
@@ -18,6 +21,7 @@ ghost use Rattle.acl_model.specs.StreamExamples.{one_text, one_child, two_childr
 ghost use Rattle.acl_model.specs.declared.document.Doc.{Doc};
 ghost use Rattle.acl_model.specs.declared.document.Element.{Element};
 ghost use Rattle.acl_model.specs.declared.path.Path.{Path};
+ghost use Rattle.acl_model.specs.declared.path.PredStep.{PredStep};
 ghost use Rattle.acl_model.specs.declared.rule.Rule.{Rule};
 ghost use Rattle.acl_model.specs.declared.rule.Sign.TheVariants.{Grant};
 
@@ -25,6 +29,17 @@ ghost use Rattle.acl_model.specs.declared.rule.Sign.TheVariants.{Grant};
 pub fn paths_select_by_ancestors()
     ensures { (d : Doc) (path : Path) (place : List ℕ)
         → select d path place ≡ on_chain (selects path) (chain_at d.root [] place) }
+{}
+
+/// An element is among the targets of a predicate exactly where it stands at a place to which the way leads from the
+/// bearer, by the steps of paths and their sets of places.
+pub fn targets_stand_where_ways_lead()
+    ensures reached { (d : Doc) (bearer : List ℕ) (e x : Element) (way : List PredStep)
+        → at d bearer ≡ Some e → Contains (targets way e) x
+        → (place : List ℕ) × (way_leads d way bearer place ≡ true) × (at d place ≡ Some x) }
+    ensures all { (d : Doc) (bearer place : List ℕ) (e x : Element) (way : List PredStep)
+        → at d bearer ≡ Some e → way_leads d way bearer place ≡ true → at d place ≡ Some x
+        → Contains (targets way e) x }
 {}
 
 /// The sign of a place is that of the nearest selected element among the element there and its ancestors.
