@@ -1,4 +1,4 @@
-use Rattle.std.proofs.Common.{◌≡◌, ◌++◌, ◌≤◌, List, ℕ, length, take, sym, rules, arith}
+use Rattle.std.proofs.Common.{arith}
 use Rattle.acl_outside.proofs.Leaving.{AppendsPart-front}
 use Rattle.acl_outside.proofs.mem_sink.MemSinkSink.write.Goals as goal
 
