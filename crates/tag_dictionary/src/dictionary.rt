@@ -244,7 +244,7 @@ impl Dictionary {
     {
         match item {
             Item::Text(_) => Ok(()),
-            Item::Child(element) => self.add_element(alloc, element),
+            Item::Child(element) => self.add_element(alloc, element.get()),
         }
     }
 }

@@ -3,23 +3,25 @@
 
 ghost use Rattle.std.specs.Prelude.{◌≡◌, [], true, IfOk};
 ghost use Rattle.acl_model.specs.Document.{is_document};
-ghost use Rattle.acl_model.specs.declared.document.Element.{Element};
+ghost use Rattle.acl_model.specs.declared.document.Item.TheVariants.{Child};
 
 use super::*;
 use acl_model::{Bytes, Doc, Element, Item, Name, Sequence};
-use sqlite_items::Items;
+use sqlite_items::{Boxed, Items};
 use std::alloc::{AllocError, Global};
 use std::test::Fail;
 
-/// An element with nothing inside.
-fn leaf(alloc: Global, name: &[u8]) -> Result<Element, AllocError>
-    ensures { IfOk result (λ e. e ≡ record { name = name.now; attributes = []; items = [] }) }
+/// A child with nothing inside.
+fn child(alloc: Global, name: &[u8]) -> Result<Item, AllocError>
+    ensures { IfOk result (λ item. item
+        ≡ Child (record { name = name.now; attributes = []; items = [] })) }
 {
-    Ok(Element {
+    let element = Element {
         name: Name::from_slice(alloc, name)?,
         attributes: Sequence::new(alloc),
         items: Items::from_vec(Vec::new(alloc)),
-    })
+    };
+    Ok(Item::Child(Boxed::new(alloc, element)?))
 }
 
 /// A root `a` with the children `c`, `b` and `c`, and a text.
@@ -27,10 +29,10 @@ fn small(alloc: Global) -> Result<Doc, AllocError>
     ensures { IfOk result (λ d. is_document d ≡ true) }
 {
     let mut items = Vec::new(alloc);
-    items.push(Item::Child(leaf(alloc, b"c")?))?;
+    items.push(child(alloc, b"c")?)?;
     items.push(Item::Text(Bytes::from_slice(alloc, b"x")?))?;
-    items.push(Item::Child(leaf(alloc, b"bb")?))?;
-    items.push(Item::Child(leaf(alloc, b"c")?))?;
+    items.push(child(alloc, b"bb")?)?;
+    items.push(child(alloc, b"c")?)?;
     Ok(Doc {
         root: Element {
             name: Name::from_slice(alloc, b"a")?,

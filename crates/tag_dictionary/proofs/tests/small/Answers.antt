@@ -19,14 +19,14 @@ small_is_document name attributes items named none inside = rw (named, none, ins
 
 pub returns : goal.returns
 returns c =
-    let items : c.from_vec.result ≡ Child c.in_ok-leaf.field-0 ∷ Text c.in_ok-from_slice.field-0 ∷ Child c.in_ok-leaf-2.field-0 ∷ Child c.in_ok-leaf-3.field-0 ∷ [] = grind arith in
-    let first = c.in_ok-leaf.field-0 in
+    let first = c.in_ok-child.field-0 in
     let text = c.in_ok-from_slice.field-0 in
-    let second = c.in_ok-leaf-2.field-0 in
-    let third = c.in_ok-leaf-3.field-0 in
+    let second = c.in_ok-child-2.field-0 in
+    let third = c.in_ok-child-3.field-0 in
+    let items : c.from_vec.result ≡ first ∷ Text text ∷ second ∷ third ∷ [] = grind arith in
     small_is_document c.in_ok-from_slice-2.field-0 c.new.result c.from_vec.result c.in_ok-from_slice-2.ensures c.new.ensures
     (items
-    ∙ ap (λ (e : Element). Child e ∷ Text text ∷ Child second ∷ Child third ∷ []) c.in_ok-leaf.ensures
-    ∙ ap (λ (t : List ℕ). Child (leaf (codes "c")) ∷ Text t ∷ Child second ∷ Child third ∷ []) c.in_ok-from_slice.ensures
-    ∙ ap (λ (e : Element). Child (leaf (codes "c")) ∷ Text (codes "x") ∷ Child e ∷ Child third ∷ []) c.in_ok-leaf-2.ensures
-    ∙ ap (λ (e : Element). Child (leaf (codes "c")) ∷ Text (codes "x") ∷ Child (leaf (codes "bb")) ∷ Child e ∷ []) c.in_ok-leaf-3.ensures)
+    ∙ ap (λ (i : Item). i ∷ Text text ∷ second ∷ third ∷ []) c.in_ok-child.ensures
+    ∙ ap (λ (t : List ℕ). Child (leaf (codes "c")) ∷ Text t ∷ second ∷ third ∷ []) c.in_ok-from_slice.ensures
+    ∙ ap (λ (i : Item). Child (leaf (codes "c")) ∷ Text (codes "x") ∷ i ∷ third ∷ []) c.in_ok-child-2.ensures
+    ∙ ap (λ (i : Item). Child (leaf (codes "c")) ∷ Text (codes "x") ∷ Child (leaf (codes "bb")) ∷ i ∷ []) c.in_ok-child-3.ensures)

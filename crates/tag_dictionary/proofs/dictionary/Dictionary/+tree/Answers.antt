@@ -3,6 +3,7 @@ use Rattle.std.specs.List.{flat_map}
 use Rattle.acl_model.specs.Names.{is_name}
 use Rattle.acl_model.specs.Document.{is_well_formed, item_well_formed, height, height_of_item}
 use Rattle.acl_model.specs.Dictionary.{with_name, with_names, item_start_names}
+use Rattle.acl_model.specs.declared.document.Item.TheVariants.{Child}
 use Rattle.acl_model.proofs.FormEquations.{item_well_formed-Child, height_of_item-Child}
 use Rattle.tag_dictionary.specs.declared.fault.TagFault.TheVariants.{TooManyTags}
 use Rattle.tag_dictionary.proofs.Forms.{is_name-element, well_formed-items, with_names-element, many-more, height_of_item-lower, with_names-next, well_formed-next, well_formed-behind}
@@ -58,6 +59,7 @@ add_element-add_item-requires t c =
 -- a child element is no higher than its item, and has the right form
 pub add_item-add_element-requires : goal.add_item-add_element-requires
 add_item-add_element-requires t c =
-    let same : height_of_item c.args.item.now ≡ height c.in-Child.element = ap height_of_item c.in-Child.is ∙ height_of_item-Child c.in-Child.element in
-    let formed : is_well_formed is_name c.in-Child.element ≡ true = sym (item_well_formed-Child is_name c.in-Child.element) ∙ (ap (item_well_formed is_name) (sym c.in-Child.is) ∙ c.requires.formed) in
+    let is : c.args.item.now ≡ Child c.get.result.now = c.in-Child.is ∙ ap Child (sym c.get.ensures) in
+    let same : height_of_item c.args.item.now ≡ height c.get.result.now = ap height_of_item is ∙ height_of_item-Child c.get.result.now in
+    let formed : is_well_formed is_name c.get.result.now ≡ true = sym (item_well_formed-Child is_name c.get.result.now) ∙ (ap (item_well_formed is_name) (sym is) ∙ c.requires.formed) in
     (omega (arith, same), formed)
