@@ -1,1 +1,5 @@
 pub mod HeaderBytes
+pub mod Strings
+pub mod Table
+pub mod Levels
+pub mod File

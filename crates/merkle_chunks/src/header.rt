@@ -3,7 +3,10 @@
 
 ghost use Rattle.std.specs.Prelude.{◌≡◌, ◌≢◌, ◌↔◌, IsTrue, IsErr, IfOk};
 ghost use Rattle.merkle_chunks.specs.HeaderBytes.{IsInRange, header_bytes, fragment_count};
+ghost use Rattle.merkle_chunks.specs.Table.{IsNode, node_place};
 ghost use Rattle.merkle_chunks.specs.declared.header.Header.{Header};
+
+use crate::counts::counts_at;
 
 /// What each file begins with.
 const MAGIC: &[u8; 8] = b"SKIPIDX1";
@@ -65,6 +68,15 @@ impl Header {
         ensures { result ≡ fragment_count self.now }
     {
         (self.tree + u64::from(self.dictionary)).div_ceil(256) as u32
+    }
+
+    /// Where a node of the table stands in the file of so many fragments.
+    pub fn node_place(fragments: u32, level: u32, index: u32) -> u64
+        requires { IsNode fragments level index }
+        ensures { result ≡ node_place fragments level index }
+    {
+        let before = counts_at(fragments, level).below + u64::from(index);
+        64 + 256 * u64::from(fragments) + 32 * before
     }
 
     /// Whether the numbers are in their ranges.

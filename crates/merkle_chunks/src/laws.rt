@@ -1,11 +1,154 @@
-//! That the bytes of a header are those of no other. This function does nothing: its contract is the law.
+//! What the definitions say: of headers, of counts and levels, and of the parts of a document's file. These functions do
+//! nothing: their contracts are the laws.
 
-ghost use Rattle.std.specs.Prelude.{◌≡◌};
-ghost use Rattle.merkle_chunks.specs.HeaderBytes.{IsInRange, header_bytes};
+ghost use Rattle.std.specs.Prelude.{◌≡◌, ℕ, suc, ◌+◌, ◌-◌, ◌*◌, ◌/◌, ◌^◌, ◌<◌, ◌≤◌, List, [], ◌∷◌, ◌++◌, Some, true, length, take, drop, slice_index_or};
+ghost use Rattle.std.specs.List.{slice_get};
+ghost use Rattle.sha2.specs.Sha256.{sha256};
+ghost use Rattle.acl_model.specs.Ascii.{are_bytes};
+ghost use Rattle.acl_model.specs.Document.{is_document};
+ghost use Rattle.acl_model.specs.Stream.{has_stream, plain};
+ghost use Rattle.acl_model.specs.declared.document.Doc.{Doc};
+ghost use Rattle.aes_block.specs.Aes.{AreBytes};
+ghost use Rattle.position_cipher.specs.Fragments.{locked_fragment, unlocked_fragment};
+ghost use Rattle.merkle_chunks.specs.HeaderBytes.{IsInRange, fragment_count, header_bytes};
+ghost use Rattle.merkle_chunks.specs.Strings.{StringName, absent_child, leaf, leaf_string, node_string, root, root_string, spot};
+ghost use Rattle.merkle_chunks.specs.Table.{IsNode, IsTopLevel, count_below, digest_count, digests_at, each_level, fragments, level_count, node_of, node_place, strings_at, table_bytes, table_levels, top_digest, top_level};
+ghost use Rattle.merkle_chunks.specs.Levels.{levels_above, levels_in};
+ghost use Rattle.merkle_chunks.specs.File.{cipher_fragments, cipher_stream, document_header, file, file_root, file_strings};
 ghost use Rattle.merkle_chunks.specs.declared.header.Header.{Header};
 
 /// No two headers have the same bytes. So reading what was written gives the header again.
 pub fn a_header_has_its_own_bytes()
     ensures { (one other : Header) → IsInRange one → IsInRange other
         → header_bytes one ≡ header_bytes other → one ≡ other }
+{}
+
+/// The header of a document that has a stream is in its ranges, whatever the key.
+pub fn headers_of_documents_are_in_range()
+    ensures { (d : Doc) (key : List ℕ) → is_document d ≡ true → has_stream d ≡ true
+        → IsInRange (document_header d key) }
+{}
+
+/// A level has the fragments divided by a power of two, rounded up.
+pub fn levels_have_powers_of_two()
+    ensures { (n level : ℕ) → level_count n level ≡ (n + 2 ^ level - 1) / 2 ^ level }
+{}
+
+/// The top level is the first one with a single digest. At most 131,072 fragments have at most 17 levels above their own.
+pub fn the_top_has_the_first_single_digest()
+    ensures first { (n : ℕ) → 1 ≤ n → IsTopLevel n (top_level n) }
+    ensures one { (n k l : ℕ) → IsTopLevel n k → IsTopLevel n l → k ≡ l }
+    ensures low { (n : ℕ) → n ≤ 131072 → top_level n ≤ 17 }
+{}
+
+/// The bytes of a table over digests of 32 bytes are cut into its levels, and these are the digests of the leaves and the
+/// levels above them.
+pub fn tables_are_cut_into_their_levels()
+    ensures cut { (hash : List ℕ → List ℕ) (fragments : List (List ℕ))
+        → ((string : List ℕ) → length (hash string) ≡ 32)
+        → levels_in (length fragments) (table_bytes (table_levels hash fragments))
+        ≡ table_levels hash fragments }
+    ensures above { (hash : List ℕ → List ℕ) (fragments : List (List ℕ))
+        → let leaves = digests_at hash fragments 0 in
+        table_levels hash fragments
+        ≡ leaves ∷ levels_above hash (top_level (length fragments)) leaves }
+{}
+
+/// The table over 41 fragments, worked out by hand.
+pub fn forty_one_fragments_have_85_digests()
+    ensures levels { each_level 41 (level_count 41)
+        ≡ 41 ∷ 21 ∷ 11 ∷ 6 ∷ 3 ∷ 2 ∷ 1 ∷ [] }
+    ensures digests { digest_count 41 ≡ 85 }
+{}
+
+/// Where the parts of a document's file stand: its header, each fragment, and each node of its table. So its root is that of
+/// the header and the top digest as they stand in it.
+pub fn parts_stand_at_their_places()
+    ensures header { (d : Doc) (key : List ℕ)
+        → take 64 (file d key) ≡ header_bytes (document_header d key) }
+    ensures fragment { (d : Doc) (key : List ℕ) (index : ℕ)
+        → index < length (cipher_fragments d key)
+        → take 256 (drop (64 + 256 * index) (file d key))
+        ≡ slice_index_or (cipher_fragments d key) index [] }
+    ensures node { (d : Doc) (key : List ℕ) (level index : ℕ)
+        → let n = length (cipher_fragments d key) in IsNode n level index
+        → node_of (table_levels sha256 (cipher_fragments d key)) level index
+        ≡ Some (take 32 (drop (node_place n level index) (file d key))) }
+    ensures size { (d : Doc) (key : List ℕ)
+        → let n = length (cipher_fragments d key) in
+        length (file d key) ≡ 64 + 256 * n + 32 * digest_count n }
+    ensures root { (d : Doc) (key : List ℕ)
+        → let n = length (cipher_fragments d key) in 1 ≤ n → file_root d key
+        ≡ sha256 (root_string (take 64 (file d key))
+        (take 32 (drop (node_place n (top_level n) 0) (file d key)))) }
+{}
+
+/// The plain stream of a document is bytes.
+pub fn streams_are_bytes()
+    ensures { (d : Doc) → is_document d ≡ true → are_bytes (plain d) ≡ true }
+{}
+
+/// Under a key of 16 bytes a document's file has as many fragments as its header says, and each is the fragment of the
+/// plain stream, locked at its index; unlocking gives that one again.
+pub fn fragments_are_locked_one_by_one()
+    ensures count { (d : Doc) (key : List ℕ) → AreBytes 16 key
+        → length (cipher_fragments d key) ≡ fragment_count (document_header d key) }
+    ensures locked { (d : Doc) (key : List ℕ) (index : ℕ) → AreBytes 16 key
+        → index < length (cipher_fragments d key)
+        → slice_index_or (cipher_fragments d key) index []
+        ≡ locked_fragment key index (slice_index_or (fragments (plain d)) index []) }
+    ensures unlocked { (d : Doc) (key : List ℕ) (index : ℕ) → is_document d ≡ true
+        → AreBytes 16 key → index < length (cipher_fragments d key)
+        → unlocked_fragment key index (slice_index_or (cipher_fragments d key) index [])
+        ≡ slice_index_or (fragments (plain d)) index [] }
+{}
+
+/// Under a key of 16 bytes a document's file is made by its parts: bytes of which each fragment is that of the plain stream,
+/// locked at its index, are the enciphered stream, and it stands between the header and the table over it.
+pub fn files_are_made_by_their_parts()
+    ensures cipher { (d : Doc) (key cipher : List ℕ) → AreBytes 16 key
+        → length cipher ≡ length (plain d)
+        → ((index : ℕ) → index < length (fragments (plain d))
+        → slice_index_or (fragments cipher) index []
+        ≡ locked_fragment key index (slice_index_or (fragments (plain d)) index []))
+        → cipher ≡ cipher_stream d key }
+    ensures whole { (d : Doc) (key : List ℕ) → AreBytes 16 key
+        → let levels = table_levels sha256 (cipher_fragments d key) in file d key
+        ≡ header_bytes (document_header d key) ++ (cipher_stream d key ++ table_bytes levels) }
+{}
+
+/// The string of a node above the leaves is made of the two digests below it, or of one and an absent child.
+pub fn nodes_stand_over_two_digests()
+    ensures { (hash : List ℕ → List ℕ) (fragments : List (List ℕ)) (level index : ℕ)
+        → IsNode (length fragments) (suc level) index
+        → slice_index_or (strings_at hash fragments (suc level)) index []
+        ≡ node_string (slice_index_or (digests_at hash fragments level) (2 * index) [])
+        (slice_index_or (digests_at hash fragments level) (2 * index + 1) absent_child) }
+{}
+
+/// The strings of a file are the root string, the leaf string of each fragment and the string of each node above; and no two
+/// of them have the same name.
+pub fn each_string_has_its_own_name()
+    ensures one { (d : Doc) (key : List ℕ) (i j : ℕ) (s t : StringName × List ℕ)
+        → slice_get (file_strings d key) i ≡ Some s → slice_get (file_strings d key) j ≡ Some t
+        → s.0 ≡ t.0 → i ≡ j }
+    ensures root { (d : Doc) (key : List ℕ)
+        → slice_get (file_strings d key) 0 ≡ Some (
+          root,
+          root_string (header_bytes (document_header d key))
+              (top_digest sha256 (cipher_fragments d key)),
+        ) }
+    ensures leaf { (d : Doc) (key : List ℕ) (index : ℕ)
+        → index < length (cipher_fragments d key)
+        → slice_get (file_strings d key) (1 + index) ≡ Some (
+          leaf index,
+          leaf_string index (slice_index_or (cipher_fragments d key) index []),
+        ) }
+    ensures node { (d : Doc) (key : List ℕ) (level index : ℕ)
+        → let n = length (cipher_fragments d key) in IsNode n level index
+        → slice_get (file_strings d key) (1 + (count_below n level + index))
+        ≡ Some (
+          spot level index,
+          slice_index_or (strings_at sha256 (cipher_fragments d key) level) index [],
+        ) }
 {}
