@@ -1,0 +1,13 @@
+pub mod Openings
+pub mod Asks
+pub mod Served
+pub mod Hashed
+pub mod Good
+pub mod Clash
+pub mod Told
+pub mod Climbing
+pub mod Held
+pub mod Starting
+pub mod Settled
+pub mod SettledProps
+pub mod Checked

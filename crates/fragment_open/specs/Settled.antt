@@ -1,0 +1,130 @@
+-- What an opener's reads say between its calls, and how a call of it ends. This project's own.
+use Rattle.std.specs.Prelude.{◌≡◌, ◌≢◌, ℕ, ◌/◌, ◌<◌, Bool, true, false, ◌&&◌, nat_eq, nat_lt, if◌then◌else◌, is_some, Option, Some, None, Result, Ok, Err, List, [], ◌∷◌, map, slice_index_or}
+use Rattle.std.specs.List.{list_all, list_any}
+use Rattle.sha2.specs.Sha256.{sha256}
+use Rattle.acl_model.specs.Document.{is_document}
+use Rattle.acl_model.specs.Stream.{plain}
+use Rattle.acl_model.specs.declared.document.Doc.{Doc}
+use Rattle.acl_outside.specs.Outside.{StoreRead}
+use Rattle.acl_outside.specs.declared.read_fault.ReadFault.{ReadFault}
+use Rattle.acl_outside.specs.declared.read_fault.ReadFault.TheVariants.{BadFragment, StoreFault, StoreShort}
+use Rattle.merkle_chunks.specs.HeaderBytes.{fragment_count, header_bytes}
+use Rattle.merkle_chunks.specs.File.{HasRoot, file_root}
+use Rattle.merkle_chunks.specs.Strings.{root_string}
+use Rattle.merkle_chunks.specs.Table.{fragments, top_level}
+use Rattle.merkle_chunks.specs.declared.header.Header.{Header}
+use Rattle.fragment_open.specs.declared.kept.Kept.{Kept}
+use Rattle.fragment_open.specs.Openings.{Opening, index_of, indexes, openings}
+use Rattle.fragment_open.specs.Asks.{ask_of}
+use Rattle.fragment_open.specs.Served.{IsRegular, asks_by, header_served, top_served}
+use Rattle.fragment_open.specs.Hashed.{chunk_digest, folded, wanted}
+use Rattle.fragment_open.specs.Good.{AreGood}
+use Rattle.fragment_open.specs.Clash.{reads_clash}
+use Rattle.fragment_open.specs.Told.{IsCut, is_whole}
+use Rattle.fragment_open.specs.Held.{IsStoreFault, digest_held}
+use Rattle.fragment_open.specs.Starting.{HoldsDocument, IsHeadOf}
+
+-- ---- the reads of one opener
+
+-- whether a read asks for a header: each opener begins with its only such read
+abbrev pub is_start : StoreRead → Bool
+is_start read = nat_eq read.asked 64
+
+-- the reads from the last one on that asked for a header: those of the opener that began with it
+unfoldable pub since : List StoreRead → List StoreRead
+since [] = []
+since (read ∷ reads) = if list_any is_start reads then since reads else read ∷ reads
+
+-- the root that a header and a top digest make
+abbrev pub root_by : Header → List ℕ → List ℕ
+root_by header top = sha256 (root_string (header_bytes header) top)
+
+-- ---- between calls
+
+-- what is kept of the newest opening, where there is one: the number of its chunk and, where there are levels above it, the chunk's
+-- digest
+abbrev pub IsKept : ℕ → Option Kept → List Opening → Type 0
+IsKept n None [] = Unit {0}
+IsKept n None (opening ∷ before) = ⊥
+IsKept n (Some kept) [] = ⊥
+IsKept n (Some kept) (opening ∷ before) = (kept.chunk ≡ index_of opening / 16) × (4 < top_level n → chunk_digest sha256 n (opening ∷ before) ≡ Some kept.digest)
+
+-- The reads of an opener under a header and a top digest, of which none was refused: they served these, are all those that an
+-- opener makes for the fragments that were opened, came whole, and each opening was good.
+pub record IsSettled (header : Header) (top : List ℕ) (kept : Option Kept) (reads : List StoreRead) : Type 0 where
+  pub header_is : header_served reads ≡ Some header
+  pub top_is : top_served reads ≡ Some top
+  pub asked : map ask_of reads ≡ asks_by (Some header) (indexes reads)
+  pub all_whole : list_all is_whole reads ≡ true
+  pub good : AreGood sha256 (fragment_count header) top (openings reads)
+  pub kept_is : IsKept (fragment_count header) kept (openings reads)
+
+-- this holds of the reads of an opener that has not refused, where the store tells what it served
+abbrev pub Settled : Option (List StoreRead) → Header → List ℕ → Option Kept → Option ReadFault → Type 0
+Settled None header top kept fault = Unit {0}
+Settled (Some all) header top kept (Some fault) = Unit {0}
+Settled (Some all) header top kept None = IsSettled header top kept (since all)
+
+-- what is kept is the file's, where there are levels above a chunk
+abbrev pub IsKeptOf : Doc → List ℕ → ℕ → Option Kept → Type 0
+IsKeptOf d key top None = Unit {0}
+IsKeptOf d key top (Some kept) = 4 < top → kept.digest ≡ digest_held d key 4 kept.chunk
+
+-- where the store holds the file of a document under the key, with the root that header and top digest make, they are the file's,
+-- and so is what is kept
+abbrev pub AreHeld : Option (List ℕ) → Header → List ℕ → List ℕ → Option Kept → Type 0
+AreHeld held header top key kept =
+    (d : Doc) → HoldsDocument held d key → file_root d key ≡ root_by header top
+    → IsHeadOf d key header top × IsKeptOf d key (top_level (fragment_count header)) kept
+
+-- ---- how a call ends
+
+-- A fragment was opened: the reads are those that an opener makes and came whole, the newest opening is of it and folds to what is wanted, and the
+-- bytes are the document's fragment, whatever document's file has the root, or there is a clash with its strings.
+pub record IsFetched (index : ℕ) (header : Header) (top key bytes : List ℕ) (reads : List StoreRead) : Type 0 where
+  pub regular : IsRegular reads
+  pub all_whole : list_all is_whole reads ≡ true
+  pub newest : (before : List ℕ) × (indexes reads ≡ index ∷ before)
+  pub folds : folded sha256 reads ≡ wanted sha256 reads
+  pub there : is_some (folded sha256 reads) ≡ true
+  pub gives : (d : Doc) → is_document d ≡ true → HasRoot d key (root_by header top) → reads_clash reads d key ≡ false
+      → bytes ≡ slice_index_or (fragments (plain d)) index []
+
+-- why a fragment was refused, by the reads: one came short; all came whole and the store failed; or all came whole and the newest
+-- opening, of this fragment, folds to another digest than the wanted one
+abbrev pub IsFetchCause : ℕ → ReadFault → List StoreRead → Type 0
+IsFetchCause index (StoreShort to) reads = IsCut to reads
+IsFetchCause index StoreFault reads = list_all is_whole reads ≡ true
+IsFetchCause index (BadFragment refused want made) reads =
+    (refused ≡ index) × (list_all is_whole reads ≡ true) × ((before : List ℕ) × (indexes reads ≡ index ∷ before))
+    × (folded sha256 reads ≡ Some made) × (wanted sha256 reads ≡ Some want) × (want ≢ made)
+IsFetchCause index other reads = ⊥
+
+-- how an opener that has not refused answers, by its reads after the call
+abbrev pub FetchEnds : {T : Type 0} → Result T ReadFault → ℕ → Header → List ℕ → List ℕ → List ℕ → List StoreRead → Type 0
+FetchEnds (Ok done) index header top key bytes reads = IsFetched index header top key bytes reads
+FetchEnds (Err fault) index header top key bytes reads = IsRegular reads × IsFetchCause index fault reads
+
+-- ---- the aim of the next opening, by what is kept
+
+-- whether it goes up to its chunk alone: there are levels above, and the digest of that chunk is kept
+abbrev pub goes_to_chunk : ℕ → ℕ → Option Kept → Bool
+goes_to_chunk top index None = false
+goes_to_chunk top index (Some kept) = nat_lt 4 top && nat_eq (index / 16) kept.chunk
+
+-- the digest that is wanted at its goal: the kept one, or that of the top
+abbrev pub want_by : ℕ → ℕ → Option Kept → List ℕ → List ℕ
+want_by level index None top = top
+want_by level index (Some kept) top = if goes_to_chunk level index (Some kept) then kept.digest else top
+
+-- ---- refusals under a store that holds the file
+
+-- there is no refusal, or it is the store's own failure
+abbrev pub IsQuiet : Option ReadFault → Type 0
+IsQuiet None = Unit {0}
+IsQuiet (Some fault) = IsStoreFault fault
+
+-- where the store holds the file of a document under the key, with the root that header and top digest make, nothing was refused but
+-- by the store's own failure
+abbrev pub IsQuietIfHeld : Option (List ℕ) → Header → List ℕ → List ℕ → Option ReadFault → Type 0
+IsQuietIfHeld held header top key fault = (d : Doc) → HoldsDocument held d key → file_root d key ≡ root_by header top → IsQuiet fault

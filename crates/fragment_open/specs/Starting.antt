@@ -1,0 +1,105 @@
+-- How a reader starts on a store: by the header and the top digest. This project's format.
+use Rattle.std.specs.Prelude.{◌≡◌, ◌≢◌, ◌⊎◌, ℕ, true, Option, Some, None, option_map, option_and_then, List, [], ◌∷◌, map}
+use Rattle.std.specs.List.{list_all, slice_get}
+use Rattle.sha2.specs.Sha256.{sha256}
+use Rattle.acl_model.specs.Document.{is_document}
+use Rattle.acl_model.specs.Stream.{has_stream}
+use Rattle.acl_model.specs.declared.document.Doc.{Doc}
+use Rattle.aes_block.specs.Aes.{AreBytes}
+use Rattle.acl_outside.specs.Outside.{StoreRead}
+use Rattle.acl_outside.specs.declared.read_fault.ReadFault.{ReadFault}
+use Rattle.acl_outside.specs.declared.read_fault.ReadFault.TheVariants.{BadHeader, StoreFault, StoreShort, WrongKey, WrongRoot}
+use Rattle.merkle_chunks.specs.HeaderBytes.{fragment_count, header_bytes}
+use Rattle.merkle_chunks.specs.File.{document_header, file, key_check}
+use Rattle.merkle_chunks.specs.Strings.{root_string}
+use Rattle.merkle_chunks.specs.Table.{top_level}
+use Rattle.merkle_chunks.specs.declared.header.Header.{Header}
+use Rattle.fragment_open.specs.Asks.{ask_of, header_ask, top_ask}
+use Rattle.fragment_open.specs.Served.{IsRegular, header_served, root_served, top_served, whole}
+use Rattle.fragment_open.specs.Told.{IsCut, is_whole}
+use Rattle.fragment_open.specs.Held.{digest_held}
+
+-- ---- what was read
+
+-- The reads are the one of a header, and this is the header served.
+pub record IsHeaderRead (header : Header) (reads : List StoreRead) : Type 0 where
+  pub asked : map ask_of reads ≡ header_ask ∷ []
+  pub served : header_served reads ≡ Some header
+  pub all_whole : list_all is_whole reads ≡ true
+
+-- a header was not read: its read came short, what came is none, or the store failed
+abbrev pub IsNoHeader : ReadFault → List StoreRead → Type 0
+IsNoHeader BadHeader reads = (map ask_of reads ≡ header_ask ∷ []) × (header_served reads ≡ None) × (list_all is_whole reads ≡ true)
+IsNoHeader (StoreShort to) reads = (map ask_of reads ≡ header_ask ∷ []) × (header_served reads ≡ None) × IsCut to reads
+IsNoHeader StoreFault reads = reads ≡ []
+IsNoHeader other reads = ⊥
+
+-- The reads are the one of the top digest over n fragments, and it gave this digest.
+pub record IsTopRead (n : ℕ) (top : List ℕ) (reads : List StoreRead) : Type 0 where
+  pub asked : map ask_of reads ≡ top_ask n ∷ []
+  pub served : option_and_then (whole 32) (slice_get reads 0) ≡ Some top
+  pub all_whole : list_all is_whole reads ≡ true
+
+-- a top digest was not read: its read came short, or the store failed
+abbrev pub IsNoTop : ℕ → ReadFault → List StoreRead → Type 0
+IsNoTop n (StoreShort to) reads = (map ask_of reads ≡ top_ask n ∷ []) × IsCut to reads
+IsNoTop n StoreFault reads = reads ≡ []
+IsNoTop n other reads = ⊥
+
+-- The reads are those of a start: of a header and of the top digest by it, which served these.
+pub record IsStarted (header : Header) (top : List ℕ) (reads : List StoreRead) : Type 0 where
+  pub asked : map ask_of reads ≡ header_ask ∷ top_ask (fragment_count header) ∷ []
+  pub header_is : header_served reads ≡ Some header
+  pub top_is : top_served reads ≡ Some top
+  pub all_whole : list_all is_whole reads ≡ true
+
+-- why a start under a root and a key was refused, by its reads: what was served as a header is none; a read came short; the store
+-- failed before a read or behind that of a header; the root string served has another digest than the root; or it has that one, and the key another check than the header
+abbrev pub IsStartCause : List ℕ → List ℕ → ReadFault → List StoreRead → Type 0
+IsStartCause root key BadHeader reads = (map ask_of reads ≡ header_ask ∷ []) × (header_served reads ≡ None) × (list_all is_whole reads ≡ true)
+IsStartCause root key (StoreShort to) reads = IsCut to reads
+IsStartCause root key StoreFault reads = (reads ≡ []) ⊎ ((header : Header) × IsHeaderRead header reads)
+IsStartCause root key (WrongRoot want made) reads = (option_map sha256 (root_served reads) ≡ Some made) × (want ≡ root) × (want ≢ made)
+IsStartCause root key (WrongKey want made) reads =
+    (option_map sha256 (root_served reads) ≡ Some root) × (option_map (λ h. h.check) (header_served reads) ≡ Some want) × (made ≡ key_check key) × (want ≢ made)
+IsStartCause root key other reads = ⊥
+
+-- a start under a root and a key was refused: its reads are the first of those that an opener makes, and show why
+abbrev pub IsNotStarted : List ℕ → List ℕ → ReadFault → List StoreRead → Type 0
+IsNotStarted root key fault reads = IsRegular reads × IsStartCause root key fault reads
+
+-- ---- what a store that holds a file gives
+
+-- A store holds the file of a document under a key of 16 bytes.
+pub record HoldsDocument (held : Option (List ℕ)) (d : Doc) (key : List ℕ) : Type 0 where
+  pub holds : held ≡ Some (file d key)
+  pub document : is_document d ≡ true
+  pub stream : has_stream d ≡ true
+  pub key_bytes : AreBytes 16 key
+
+-- A header and a top digest are those of a document's file under a key.
+pub record IsHeadOf (d : Doc) (key : List ℕ) (header : Header) (top : List ℕ) : Type 0 where
+  pub header_is : header ≡ document_header d key
+  pub top_is : top ≡ digest_held d key (top_level (fragment_count header)) 0
+
+-- ---- what is checked by them
+
+-- The header and the top digest are taken as they were read, under a root that is made by them and a key that has the header's check.
+pub record IsHead (root key : List ℕ) (header : Header) (top : List ℕ) (taken : Header) (taken_top taken_key made : List ℕ) : Type 0 where
+  pub header_is : taken ≡ header
+  pub top_is : taken_top ≡ top
+  pub key_is : taken_key ≡ key
+  pub root_is : made ≡ root
+  pub check_is : key_check key ≡ header.check
+
+-- why they were refused: the root made by them is another, or it is the right one and the key has another check
+abbrev pub IsHeadFault : List ℕ → List ℕ → List ℕ → List ℕ → ReadFault → Type 0
+IsHeadFault root key check made (WrongRoot want other) = (want ≡ root) × (other ≡ made) × (want ≢ other)
+IsHeadFault root key check made (WrongKey want other) = (made ≡ root) × (want ≡ check) × (other ≡ key_check key) × (want ≢ other)
+IsHeadFault root key check made other = ⊥
+
+-- A header and a top digest are under a root, and the key is one whose check is the header's.
+pub record IsUnder (root key : List ℕ) (header : Header) (top taken_key : List ℕ) : Type 0 where
+  pub root_is : sha256 (root_string (header_bytes header) top) ≡ root
+  pub key_is : taken_key ≡ key
+  pub check_is : key_check key ≡ header.check

@@ -1,0 +1,70 @@
+//! What the definitions say: of the words of reads, of clashes, and of good reads under a document's root. These functions do
+//! nothing: their contracts are the laws.
+ghost use Rattle.std.specs.Prelude.{◌≡◌, ◌↔◌, ℕ, List, [], ◌∷◌, ◌++◌, Some, true, false, slice_index_or};
+ghost use Rattle.std.specs.List.{list_any};
+ghost use Rattle.acl_model.specs.Document.{is_document};
+ghost use Rattle.acl_model.specs.Stream.{has_stream};
+ghost use Rattle.acl_model.specs.declared.document.Doc.{Doc};
+ghost use Rattle.aes_block.specs.Aes.{AreBytes};
+ghost use Rattle.acl_outside.specs.Outside.{StoreRead};
+ghost use Rattle.merkle_chunks.specs.HeaderBytes.{IsInRange, header_bytes};
+ghost use Rattle.merkle_chunks.specs.File.{HasRoot, cipher_fragments, document_header, file};
+ghost use Rattle.merkle_chunks.specs.Strings.{StringName};
+ghost use Rattle.merkle_chunks.specs.declared.header.Header.{Header};
+ghost use Rattle.fragment_open.specs.Openings.{Opening, index_of, openings};
+ghost use Rattle.fragment_open.specs.Asks.{opening_asks};
+ghost use Rattle.fragment_open.specs.Served.{IsRegular, header_in};
+ghost use Rattle.fragment_open.specs.Clash.{IsClash, has_clash, reads_clash};
+ghost use Rattle.fragment_open.specs.Settled.{is_start, since};
+ghost use Rattle.fragment_open.specs.Checked.{AreChecked, AreReadsOf};
+
+/// The header served is the one whose bytes were served, where they are one's, and there is only one.
+pub fn a_header_served_has_the_bytes()
+    ensures { (bytes : List ℕ) (h : Header)
+        → header_in bytes ≡ Some h ↔ IsInRange h × (header_bytes h ≡ bytes) }
+{}
+
+/// What fragments 40, 36 and 31 of 41, opened in that order, ask for: the first goes up to the top, and two of its siblings are on
+/// the table; the second is in its chunk and goes up to the chunk; the third is in the chunk before and goes up to the top.
+pub fn three_openings_of_forty_one()
+    ensures { opening_asks 41 (31 ∷ 36 ∷ 40 ∷ [])
+        ≡ (10304, 256) ∷ (13024, 32) ∷ (13184, 32)
+        ∷ (9280, 256) ∷ (11744, 32) ∷ (12480, 32) ∷ (12800, 32) ∷ (13056, 32)
+        ∷ (8000, 256) ∷ (11520, 32) ∷ (12320, 32) ∷ (12736, 32) ∷ (12960, 32) ∷ (13088, 32) ∷ (13216, 32) ∷ [] }
+{}
+
+/// Whether two lists of named strings clash is decided by a test over them.
+pub fn a_clash_is_found_by_its_test()
+    ensures { (hash : List ℕ → List ℕ) (ours theirs : List (StringName × List ℕ))
+        → has_clash hash ours theirs ≡ true ↔ IsClash hash ours theirs }
+{}
+
+/// The reads of an opener begin with its start: what a store served before doesn't count, and what comes behind is added.
+pub fn reads_of_an_opener_begin_with_its_start()
+    ensures start { (before : List StoreRead) (first : StoreRead) (more : List StoreRead)
+        → is_start first ≡ true → list_any is_start more ≡ false
+        → since (before ++ (first ∷ more)) ≡ first ∷ more }
+    ensures more { (before more : List StoreRead) → list_any is_start more ≡ false
+        → since (before ++ more) ≡ since before ++ more }
+{}
+
+/// Good reads under the root of a document's file served its header, and the newest opening read its own fragment; or two different
+/// strings of equal digest stand under one name among those hashed by the reads and those of the file.
+pub fn good_reads_are_of_the_file_or_clash()
+    ensures header { (d : Doc) (key root : List ℕ) (h : Header) (top : List ℕ) (reads : List StoreRead)
+        → is_document d ≡ true → AreBytes 16 key → HasRoot d key root → AreChecked root h top reads
+        → reads_clash reads d key ≡ false → h ≡ document_header d key }
+    ensures fragment { (d : Doc) (key root : List ℕ) (h : Header) (top : List ℕ) (reads : List StoreRead)
+        (newest : Opening) (before : List Opening)
+        → is_document d ≡ true → AreBytes 16 key → HasRoot d key root → AreChecked root h top reads
+        → openings reads ≡ newest ∷ before → reads_clash reads d key ≡ false
+        → newest.leaf.bytes ≡ slice_index_or (cipher_fragments d key) (index_of newest) [] }
+{}
+
+/// Regular reads of a store that holds a document's file, each of which gave the file's bytes from its place on, give no clash with
+/// that document.
+pub fn a_store_that_holds_the_file_gives_no_clash()
+    ensures { (d : Doc) (key : List ℕ) (reads : List StoreRead)
+        → is_document d ≡ true → has_stream d ≡ true → AreBytes 16 key
+        → IsRegular reads → AreReadsOf (file d key) reads → reads_clash reads d key ≡ false }
+{}

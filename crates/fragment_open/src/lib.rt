@@ -1,0 +1,22 @@
+//! Reads fragments of a file from a store that nobody trusts.
+#![tactic(auto)]
+
+mod climb;
+mod head;
+mod kept;
+mod last;
+mod laws;
+mod opened;
+mod opener;
+mod reading;
+
+pub use head::{Head, begin};
+pub use laws::{
+    a_clash_is_found_by_its_test, a_header_served_has_the_bytes,
+    a_store_that_holds_the_file_gives_no_clash, good_reads_are_of_the_file_or_clash,
+    reads_of_an_opener_begin_with_its_start, three_openings_of_forty_one,
+};
+pub use opener::Opener;
+
+#[cfg(test)]
+mod tests;

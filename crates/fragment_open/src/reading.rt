@@ -1,0 +1,26 @@
+//! One read of a store, which has to come whole.
+ghost use Rattle.std.specs.Prelude.{◌≡◌, ◌+◌, ◌^◌, ◌<◌, IfSome, IsErrOf, length};
+ghost use Rattle.acl_outside.specs.Outside.{NotFallen, Rose};
+ghost use Rattle.fragment_open.specs.Told.{GivesWhole, ReadsWhole, Told};
+
+use acl_outside::{ReadFault, Store};
+
+/// Fills `into` with the store's bytes from the place `at` on.
+pub(crate) fn read_whole<S: Store>(store: &mut S, at: u64, into: &mut [u8]) -> Result<(), ReadFault>
+    requires { at + length into.old < 2 ^ 64 }
+    ensures told { Told (S.served store.old) (S.served store.new) (ReadsWhole result at into.new) }
+    ensures given { IfSome (S.holds store.old) (GivesWhole result at into.new) }
+    ensures constant { S.holds store.new ≡ S.holds store.old }
+    ensures cause { IsErrOf result ReadFault.StoreFault → Rose (S.faults store.old) (S.faults store.new) }
+    ensures never_falls { NotFallen (S.faults store.old) (S.faults store.new) }
+{
+    let Ok(count) = store.read_at(at, into) else {
+        return Err(ReadFault::StoreFault);
+    };
+    if count < into.len() {
+        return Err(ReadFault::StoreShort {
+            at: at + count as u64,
+        });
+    }
+    Ok(())
+}
