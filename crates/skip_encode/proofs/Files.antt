@@ -1,0 +1,87 @@
+-- A file is made of its header, the enciphered stream and the table over it.
+use Rattle.std.proofs.Common.{◌≡◌, ℕ, suc, ◌+◌, ◌-◌, ◌*◌, ◌/◌, ◌≤◌, true, List, ◌++◌, length, length-append, take, drop, replicate, take_all, refl, sym, subst, ap, ◌∙◌, arith, append_assoc}
+use Rattle.std.proofs.lemmas.List.{take_at, drop_at}
+use Rattle.sha2.specs.Sha256.{sha256}
+use Rattle.acl_model.specs.Document.{is_document}
+use Rattle.acl_model.specs.Stream.{has_stream, plain}
+use Rattle.acl_model.specs.declared.document.Doc.{Doc}
+use Rattle.aes_block.specs.Aes.{AreBytes}
+use Rattle.merkle_chunks.specs.HeaderBytes.{IsInRange, fragment_count, header_bytes}
+use Rattle.merkle_chunks.specs.Strings.{root_string}
+use Rattle.merkle_chunks.specs.Table.{digest_count, fragments, root_digest, table_bytes, table_levels, top_digest, top_level}
+use Rattle.merkle_chunks.specs.File.{cipher_stream, document_header, file, file_root, key_check}
+use Rattle.merkle_chunks.specs.declared.header.Header.{Header}
+use Rattle.merkle_chunks.proofs.CountLemmas.{counts-le, top_level-low}
+use Rattle.merkle_chunks.proofs.FileLemmas.{file_is, length-header_bytes, length-key_check, length-plain}
+use Rattle.merkle_chunks.proofs.Places.{same_header}
+use Rattle.merkle_chunks.proofs.RangeLemmas.{document_header-in_range}
+use Rattle.skip_encode.specs.EncodedFile.{locked_stream}
+use Rattle.skip_encode.specs.Measured.{AreNumbersOf}
+use Rattle.skip_encode.specs.declared.numbers.Numbers.{Numbers}
+
+-- ---- the header
+
+-- the numbers of a document and its key check are its header
+pub header-is : (d : Doc) (key check : List ℕ) (n : Numbers) → AreNumbersOf d n → check ≡ key_check key
+    → ◌≡◌ {A = Header} (record { tree = n.tree; dictionary = n.dictionary; tags = n.tags; depth = n.depth; check = check }) (document_header d key)
+header-is d key check n are is =
+    same_header (document_header d key) n.tree n.dictionary n.tags n.depth check are.tree_length are.dictionary_length are.names are.levels is
+
+-- they are in their ranges
+pub header-fits : (d : Doc) (key check : List ℕ) (n : Numbers) → is_document d ≡ true → has_stream d ≡ true → AreNumbersOf d n → check ≡ key_check key
+    → IsInRange (record { tree = n.tree; dictionary = n.dictionary; tags = n.tags; depth = n.depth; check = check })
+header-fits d key check n good within are is = subst IsInRange (sym (header-is d key check n are is)) (document_header-in_range d good within key)
+
+-- ---- lengths
+
+-- a table over at most 131,072 fragments is short
+pub table-short : (n : ℕ) → n ≤ 131072 → 32 * digest_count n ≤ 8390000
+table-short n few = omega (arith, counts-le n (suc (top_level n)), top_level-low n few)
+
+-- the stream of a document has the bytes that its numbers tell, and the header 64
+pub length-stream : (d : Doc) (key : List ℕ) (n : Numbers) (stream : ℕ) → AreNumbersOf d n → stream ≡ 256 * ((n.tree + n.dictionary + 255) / 256)
+    → length (plain d) ≡ stream
+length-stream d key n stream are is =
+    length-plain d key ∙ ap (λ (h : Header). 256 * fragment_count h) (sym (header-is d key (key_check key) n are refl)) ∙ sym is
+
+pub length-front : (d : Doc) (key front : List ℕ) → front ≡ header_bytes (document_header d key) → length front ≡ 64
+length-front d key front is = ap length is ∙ length-header_bytes (document_header d key) (length-key_check key)
+
+-- what stands in a file whose room for the table is zeros
+module _ (front stream file : List ℕ) (n end long : ℕ) (is : file ≡ take end (front ++ stream) ++ replicate (end - long) 0) (size : length front ≡ 64) (wide : length stream ≡ n) (room : 64 + n ≤ end) where
+  zeros : List ℕ
+  zeros = replicate (end - long) 0
+
+  parts : file ≡ front ++ (stream ++ zeros)
+  unfolding zeros
+  parts =
+      is
+      ∙ ap (λ (l : List ℕ). l ++ zeros) (take_all end (front ++ stream) (omega (arith, length-append front stream)))
+      ∙ append_assoc front stream zeros
+
+  pub front-in : take 64 file ≡ front
+  front-in = ap (take 64) parts ∙ take_at front (stream ++ zeros) 64 size
+
+  pub stream-in : take n (drop 64 file) ≡ stream
+  stream-in = ap (λ (l : List ℕ). take n (drop 64 l)) parts ∙ ap (take n) (drop_at front (stream ++ zeros) 64 size) ∙ take_at stream zeros n wide
+
+-- ---- the file
+
+module _ (d : Doc) (key : List ℕ) (is_key : AreBytes 16 key) where
+  -- the locked stream is the enciphered stream of the document
+  pub cipher-is : (k stream : List ℕ) → k ≡ key → stream ≡ plain d → locked_stream k stream ≡ cipher_stream d key
+  unfolding cipher_stream
+  cipher-is k stream same is = λ i. locked_stream (same i) (is i)
+
+  -- header, enciphered stream and table are the file
+  pub file-made : (front cipher new : List ℕ) → front ≡ header_bytes (document_header d key) → cipher ≡ cipher_stream d key
+      → new ≡ front ++ (cipher ++ table_bytes (table_levels sha256 (fragments cipher))) → new ≡ file d key
+  file-made front cipher new before is made =
+      made ∙ (λ i. before i ++ (is i ++ table_bytes (table_levels sha256 (fragments (is i))))) ∙ sym (file_is d key is_key)
+
+  -- and its root is that of the header and the top digest
+  pub root-made : (front cipher top root : List ℕ) → front ≡ header_bytes (document_header d key) → cipher ≡ cipher_stream d key
+      → top ≡ top_digest sha256 (fragments cipher) → root ≡ sha256 (root_string front top) → root ≡ file_root d key
+  unfolding file_root root_digest
+  root-made front cipher top root before is over made =
+      made ∙ (λ i. sha256 (root_string (before i) ((over ∙ ap (λ (l : List ℕ). top_digest sha256 (fragments l)) is) i)))

@@ -1,0 +1,14 @@
+pub mod BitWords
+pub mod Widths
+pub mod Members
+pub mod HeadBits
+pub mod Tallying
+pub mod Heights
+pub mod Contents
+pub mod Whole
+pub mod Written
+pub mod Trees
+pub mod Documents
+pub mod LockedStreams
+pub mod Files
+pub mod Forms

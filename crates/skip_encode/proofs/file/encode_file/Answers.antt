@@ -1,0 +1,69 @@
+use Rattle.std.proofs.Common.{◌≡◌, ◌+◌, ◌-◌, ◌/◌, ◌++◌, List, ℕ, length, take, drop, replicate, vec_len, ap, sym, subst, ◌∙◌, rules, arith}
+use Rattle.std.proofs.lemmas.List.{with_items_is}
+use Rattle.acl_model.specs.Stream.{plain}
+use Rattle.aes_block.specs.Aes.{AreBytes}
+use Rattle.merkle_chunks.specs.HeaderBytes.{header_bytes}
+use Rattle.merkle_chunks.specs.File.{cipher_stream, document_header}
+use Rattle.skip_encode.specs.EncodedFile.{locked_stream}
+use Rattle.skip_encode.proofs.Documents.{sections-small}
+use Rattle.skip_encode.proofs.Files.{header-is, header-fits, table-short, length-stream, length-front, front-in, stream-in, cipher-is, file-made, root-made}
+use Rattle.skip_encode.proofs.file.encode_file.Goals as goal
+
+-- the numbers of the document are in their ranges
+pub write-front-requires : goal.write-front-requires
+write-front-requires c =
+    let is = c.in_ok-measured.ensures.measured in
+    header-fits c.args.doc.now c.args.key c.key_check.result c.in_ok-measured.measured.numbers c.requires is.defined is.numbers c.key_check.ensures
+
+-- the file is short
+pub overflow_add-end-2 : goal.overflow_add-end-2
+overflow_add-end-2 c =
+    omega (
+      arith,
+      sections-small c.args.doc.now c.in_ok-measured.measured c.in_ok-measured.ensures.measured,
+      c.stream_len-stream.ensures,
+      c.table_len.ensures,
+      table-short (c.stream_len-stream.result / 256) (omega (arith, sections-small c.args.doc.now c.in_ok-measured.measured c.in_ok-measured.ensures.measured, c.stream_len-stream.ensures)),
+    )
+
+pub lock_file-top-requires-clause-few : goal.lock_file-top-requires-clause-few
+lock_file-top-requires-clause-few c =
+    omega (arith, sections-small c.args.doc.now c.in_ok-measured.measured c.in_ok-measured.ensures.measured, c.stream_len-stream.ensures)
+
+-- the key is 16 bytes
+pub lock_file-top-requires-clause-key : goal.lock_file-top-requires-clause-key
+lock_file-top-requires-clause-key c =
+    let is_key : AreBytes 16 c.args.key = search rules in
+    subst (AreBytes 16) (sym c.new.ensures) is_key
+
+-- the file and its root
+pub returns-clause-file : goal.returns-clause-file
+returns-clause-file c =
+    let d = c.args.doc.now in
+    let key = c.args.key in
+    let is = c.in_ok-measured.ensures.measured in
+    let numbers = c.in_ok-measured.measured.numbers in
+    let stream = c.stream_len-stream.result in
+    let end = 64 + stream + c.table_len.result in
+    let is_key : AreBytes 16 key = search rules in
+    let front : c.write-front.result ≡ header_bytes (document_header d key) =
+    c.write-front.ensures ∙ ap header_bytes (header-is d key c.key_check.result numbers is.numbers c.key_check.ensures) in
+    let written : c.write.new.bytes.items ≡ c.write-front.result ++ plain d =
+    c.in_ok-write.ensures ∙ ap (λ l. l ++ plain d) (c.in_ok-extend_from_slice.ensures.items ∙ ap (λ l. l ++ c.write-front.result) c.in_ok-bytes.ensures.items) in
+    let file : c.deref_mut.result.now ≡ take end (c.write-front.result ++ plain d) ++ replicate (end - vec_len c.write.new.bytes) 0 =
+    c.deref_mut.ensures.value ∙ c.in_ok-resize.ensures.items ∙ ap (λ l. take end l ++ replicate (end - vec_len c.write.new.bytes) 0) written in
+    let size = length-front d key c.write-front.result front in
+    let wide = length-stream d key numbers stream is.numbers c.stream_len-stream.ensures in
+    let header_is : take 64 c.deref_mut.result.now ≡ header_bytes (document_header d key) =
+    front-in c.write-front.result (plain d) c.deref_mut.result.now stream end (vec_len c.write.new.bytes) file size wide (omega arith) ∙ front in
+    let cipher : List ℕ = locked_stream c.new.result (take stream (drop 64 c.deref_mut.result.now)) in
+    let cipher_is : cipher ≡ cipher_stream d key =
+    cipher-is d key is_key c.new.result (take stream (drop 64 c.deref_mut.result.now)) c.new.ensures
+    (stream-in c.write-front.result (plain d) c.deref_mut.result.now stream end (vec_len c.write.new.bytes) file size wide (omega arith)) in
+    let kept : length c.lock_file-top.new.file ≡ vec_len c.resize.new.self = search rules in
+    record {
+      defined = is.defined;
+      bytes = c.from_vec.ensures ∙ with_items_is c.resize.new.self c.lock_file-top.new.file kept
+          ∙ file-made d key is_key (take 64 c.deref_mut.result.now) cipher c.lock_file-top.new.file header_is cipher_is c.lock_file-top.ensures.file;
+      root = root-made d key is_key c.write-front.result cipher c.lock_file-top.result c.root_of.result front cipher_is c.lock_file-top.ensures.top c.root_of.ensures;
+    }

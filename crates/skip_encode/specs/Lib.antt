@@ -1,0 +1,6 @@
+pub mod PlainStream
+pub mod EncodedFile
+pub mod Faults
+pub mod Measured
+pub mod Measures
+pub mod Tallies

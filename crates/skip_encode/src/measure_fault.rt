@@ -1,0 +1,23 @@
+//! Why contents are not measured. Each answer has one cause.
+
+ghost use Rattle.std.specs.Prelude.{◌≡◌};
+ghost use Rattle.skip_encode.specs.declared.measure_fault.MeasureFault.TheVariants as measure;
+
+use std::alloc::AllocFailed;
+
+/// Why the first pass ends before all is measured.
+#[derive(Clone, Copy, Debug)]
+pub(crate) enum MeasureFault {
+    /// What was measured so far is above the limit.
+    TooLarge,
+    /// There was no memory for the measures.
+    NoMemory,
+}
+
+impl<T: Drop> From<AllocFailed<T>> for MeasureFault {
+    ghost from_gives = { λ _ fault. fault ≡ measure.NoMemory };
+
+    fn from(_: AllocFailed<T>) -> MeasureFault {
+        MeasureFault::NoMemory
+    }
+}

@@ -1,0 +1,87 @@
+//! The two passes over a document: the second writes its stream by what the first has found.
+
+ghost use Rattle.std.specs.Prelude.{◌≡◌, ◌<◌, ◌≤◌, ◌++◌, true, Err, IfOk, OnOk, length, vec_len};
+ghost use Rattle.acl_model.specs.Document.{is_document};
+ghost use Rattle.acl_model.specs.Dictionary.{dictionary};
+ghost use Rattle.acl_model.specs.Stream.{plain};
+ghost use Rattle.skip_encode.specs.Measured.{IsMeasured};
+ghost use Rattle.skip_encode.specs.PlainStream.{sections_size};
+ghost use Rattle.skip_encode.specs.declared.fault.EncodeFault.TheVariants as fault;
+
+use crate::fault::EncodeFault;
+use crate::heads::{Parent, binary_length};
+use crate::height::height;
+use crate::measures::Measures;
+use crate::measuring::measure_tree;
+use crate::numbers::Numbers;
+use crate::writing::write_element;
+use acl_bits::Row;
+use acl_model::{Bytes, Doc};
+use std::alloc::{AllocError, Global};
+use tag_dictionary::Dictionary;
+
+/// What the first pass has found of a document whose stream is not written yet.
+#[derive(Debug, Drop)]
+pub(crate) struct Measured {
+    /// Its numbers.
+    pub(crate) numbers: Numbers,
+    /// Its names.
+    names: Dictionary,
+    /// Its dictionary section.
+    section: Bytes,
+    /// The measures of its elements.
+    measures: Measures,
+}
+
+impl Measured {
+    /// The first pass. `TooManyTags` comes exactly where the document has more than 256 names, and `TooLarge` where it
+    /// hasn't and its two sections have together more than 33,554,432 bytes.
+    pub(crate) fn of(alloc: Global, doc: &Doc) -> Result<Measured, EncodeFault>
+        requires { is_document doc.now ≡ true }
+        ensures measured { IfOk result (λ m. IsMeasured doc.now m) }
+        ensures too_many { result ≡ Err fault.TooManyTags → 256 < length (dictionary doc.now) }
+        ensures few { result ≡ Err fault.TooLarge → length (dictionary doc.now) ≤ 256 }
+        ensures too_large { result ≡ Err fault.TooLarge → 33554432 < sections_size doc.now }
+    {
+        let names = Dictionary::of_doc(alloc, doc)?;
+        let section = names.bytes(alloc)?;
+        let mut measures = Measures::new(alloc);
+        let tree = measure_tree(&mut measures, &names, section.as_slice(), &doc.root)?;
+        let numbers = Numbers {
+            tree: u64::from(tree),
+            dictionary: section.len() as u32,
+            tags: names.names().len() as u16,
+            depth: height(&doc.root),
+        };
+        Ok(Measured {
+            numbers,
+            names,
+            section,
+            measures,
+        })
+    }
+
+    /// The second pass: writes the stream behind what stands in the buffer, at most a header.
+    pub(crate) fn write(self, doc: &Doc, bytes: &mut Vec<u8>) -> Result<(), AllocError>
+        requires document { is_document doc.now ≡ true }
+        requires measured { IsMeasured doc.now self }
+        requires front { vec_len bytes.old ≤ 64 }
+        ensures { OnOk result (bytes.new.items ≡ bytes.old.items ++ plain doc.now) }
+    {
+        let Measured {
+            numbers,
+            names,
+            section,
+            mut measures,
+        } = self;
+        let parent = Parent {
+            members: Row::full(numbers.tags),
+            width: binary_length(numbers.tree as u32),
+        };
+        let end = bytes.len() + numbers.stream_len();
+        bytes.extend_from_slice(section.as_slice())?;
+        write_element(bytes, &mut measures, &names, &parent, &doc.root)?;
+        bytes.resize(end, 0)?;
+        Ok(())
+    }
+}
