@@ -1,0 +1,13 @@
+pub mod Taking
+pub mod Heads
+pub mod Sizes
+pub mod Names
+pub mod Items
+pub mod Elements
+pub mod Starts
+pub mod Documents
+pub mod Searches
+pub mod Loops
+pub mod Chains
+pub mod Forms
+pub mod Roots

@@ -1,0 +1,2 @@
+pub mod StreamOf
+pub mod Reading

@@ -1,0 +1,118 @@
+//! The head of an element: its name's number, its tag set, and where its content ends.
+
+ghost use Rattle.std.specs.Prelude.{◌≡◌, ◌+◌, ◌-◌, ◌<◌, ◌≤◌, ◌^◌, [], None, Some, MatchOption, IfSome, slice_get, length};
+ghost use Rattle.acl_model.specs.Width.{binary_length};
+ghost use Rattle.skip_decode.specs.Reading.{take_bits, take_members, take_below, head_bytes, take_head};
+
+use acl_bits::{BitIn, Row};
+
+/// What a head says.
+#[derive(Clone, Copy, Debug)]
+pub(crate) struct Head {
+    /// The number of the element's name.
+    pub tag: u16,
+    /// The numbers of the names in the element.
+    pub below: Row,
+    /// The bytes of the element's content.
+    pub long: u32,
+    /// The bytes of the head itself.
+    pub bytes: usize,
+}
+
+/// The number that the next `n` bits make.
+#[tactic(auto, unfolding(crate::specs::Reading::take_bits))]
+pub(crate) fn take_bits(bits: &mut BitIn<'_>, n: u32) -> Option<u32>
+    requires { n ≤ 32 }
+    ensures { MatchOption result
+        (take_bits n bits.old ≡ None)
+        (λ value. take_bits n bits.old ≡ Some (value, bits.new)) }
+{
+    match bits.take(n) {
+        Ok(value) => Some(value),
+        Err(_) => None,
+    }
+}
+
+/// The number of binary digits.
+pub(crate) fn binary_length(n: usize) -> u32
+    ensures length { result ≡ binary_length n }
+    ensures few { result ≤ 32 }
+{
+    for width in 0..32 {
+        if (n as u64) < 1 << width {
+            return width;
+        }
+    }
+    32
+}
+
+/// The bits of a head behind its first, in a parent with these members that writes lengths in so many bits.
+#[tactic(auto, unfolding(crate::specs::Reading::take_head))]
+pub(crate) fn take_head(bits: &mut BitIn<'_>, members: &Row, width: u32) -> Option<Head>
+    requires { width ≤ 32 }
+    ensures { result ≡ take_head members.now width bits.old }
+{
+    let count = members.count();
+    let number_width = binary_length(usize::from(count.saturating_sub(1)));
+    let number = take_bits(bits, number_width)?;
+    let tag = member(members, number)?;
+    let inner = take_bits(bits, 1)?;
+    let below = take_below(bits, members, inner)?;
+    let long = take_bits(bits, width)?;
+    Some(Head {
+        tag,
+        below,
+        long,
+        bytes: head_bytes(count, number_width, inner, width),
+    })
+}
+
+/// The member of a number.
+fn member(members: &Row, number: u32) -> Option<u16>
+    ensures { result ≡ slice_get members.now number }
+{
+    if number >= u32::from(members.count()) {
+        return None;
+    }
+    members.nth(number as u16)
+}
+
+/// The set of an element, of which `inner` is 1 where it has one.
+#[tactic(auto, unfolding(crate::specs::Reading::take_below))]
+fn take_below(bits: &mut BitIn<'_>, members: &Row, inner: u32) -> Option<Row>
+    ensures { MatchOption result
+        (take_below members.now inner bits.old ≡ None)
+        (λ below. take_below members.now inner bits.old ≡ Some (below, bits.new)) }
+{
+    if inner == 1 {
+        take_members(bits, members)
+    } else {
+        Some(Row::none())
+    }
+}
+
+/// The members whose bit is 1, one bit for each.
+fn take_members(bits: &mut BitIn<'_>, members: &Row) -> Option<Row>
+    ensures { MatchOption result
+        (take_members members.now [] bits.old ≡ None)
+        (λ below. take_members members.now [] bits.old ≡ Some (below, bits.new)) }
+{
+    let mut below = Row::none();
+    for k in 0..members.count() {
+        let number = members.nth(k).unwrap();
+        if take_bits(bits, 1)? == 1 {
+            below.put(number);
+        }
+    }
+    Some(below)
+}
+
+/// The bytes of a head.
+fn head_bytes(members: u16, number_width: u32, inner: u32, width: u32) -> usize
+    requires number { number_width ≤ 32 }
+    requires width { width ≤ 32 }
+    ensures { result ≡ head_bytes members number_width inner width }
+{
+    let set = if inner == 1 { u32::from(members) } else { 0 };
+    ((2 + number_width + set + width + 7) / 8) as usize
+}

@@ -1,0 +1,29 @@
+//! That a tree section is read as its document, and that a stream is that of one document at most. These functions do
+//! nothing: their contracts are the laws.
+
+ghost use Rattle.std.specs.Prelude.{◌≡◌, ◌≤◌, ℕ, List, Some, true, length};
+ghost use Rattle.acl_model.specs.declared.document.Doc.{Doc};
+ghost use Rattle.acl_model.specs.Document.{is_document};
+ghost use Rattle.acl_model.specs.Dictionary.{dictionary, dictionary_section};
+ghost use Rattle.acl_model.specs.Stream.{has_stream, plain, tree_section, depth};
+ghost use Rattle.merkle_chunks.specs.declared.header.Header.{Header};
+ghost use Rattle.skip_decode.specs.Reading.{read_tree};
+ghost use Rattle.skip_decode.specs.StreamOf.{IsStreamOf};
+
+/// The tree section of a document is read as that document, where as many levels are read as it has.
+pub fn a_tree_is_read_again()
+    ensures { (d : Doc) (deep : ℕ)
+        → is_document d ≡ true → has_stream d ≡ true → depth d ≤ deep
+        → read_tree (dictionary d) deep (tree_section d) ≡ Some d }
+{}
+
+/// No two documents have one stream and the same numbers. Of the numbers the lengths of the two sections are enough.
+pub fn a_stream_is_of_one_document()
+    ensures numbers { (d e : Doc) (stream : List ℕ) (header : Header)
+        → IsStreamOf d stream header → IsStreamOf e stream header → d ≡ e }
+    ensures lengths { (d e : Doc)
+        → is_document d ≡ true → is_document e ≡ true → has_stream d ≡ true → has_stream e ≡ true
+        → length (dictionary_section (dictionary d)) ≡ length (dictionary_section (dictionary e))
+        → length (tree_section d) ≡ length (tree_section e)
+        → plain d ≡ plain e → d ≡ e }
+{}

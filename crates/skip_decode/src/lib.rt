@@ -1,0 +1,17 @@
+//! The inverse of the Skip index stream: a document from its plain stream and the numbers of its header.
+#![tactic(auto)]
+
+mod attributes;
+mod decode;
+mod element;
+mod form;
+mod head;
+mod laws;
+mod take;
+mod tree;
+
+pub use decode::decode_all;
+pub use laws::{a_stream_is_of_one_document, a_tree_is_read_again};
+
+#[cfg(test)]
+mod tests;
