@@ -1,7 +1,13 @@
+pub mod Spaces
+pub mod LineReadings
 pub mod Running
-pub mod Bare
+pub mod Kept
 pub mod Passing
+pub mod Dropping
 pub mod Taken
-pub mod Fitting
+pub mod OwnFaults
+pub mod Refusing
+pub mod FirstRefused
 pub mod Answering
+pub mod Fitting
 pub mod Elements

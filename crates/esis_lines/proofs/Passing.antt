@@ -1,19 +1,19 @@
--- Every document's lines are taken.
-use Rattle.std.proofs.Common.{◌≡◌, ℕ, ◌+◌, ◌<◌, ◌≤◌, suc, Bool, true, false, not, Some, Result, Ok, List, [], ◌∷◌, ◌++◌, length, map, nat_eq, nat_le, ◌&&◌, refl, sym, ap, subst, inl, inr, ◌∙◌, arith, append_assoc, append-nil}
+-- Every document's lines are taken, whatever lines that are of no document stand between them.
+use Rattle.std.proofs.Common.{◌≡◌, ℕ, ◌+◌, ◌<◌, ◌≤◌, suc, Bool, true, false, not, Ok, List, [], ◌∷◌, ◌++◌, length, map, nat_eq, nat_le, ◌&&◌, refl, sym, ap, subst, ◌∙◌, arith, append_assoc, append-nil, length-append}
 use Rattle.std.specs.Cmp.{first_so, second_so}
 use Rattle.std.specs.List.{list_all, concat}
 use Rattle.std.proofs.lemmas.Bool.{and_from, lt-ltb}
 use Rattle.std.proofs.lemmas.Slice.Eq.{bytes_eq-Decides}
-use Rattle.std.proofs.lemmas.List.{append_cancel_right}
-use borrow.Author.Tests.{eqb-true, leb-true}
+use borrow.Author.Tests.{leb-true}
 use Rattle.acl_model.specs.Ascii.{are_bytes, line_feed, left_parenthesis, right_parenthesis, hyphen, capital_a}
-use Rattle.acl_model.specs.Document.{greatest, is_raw_attribute, is_well_formed, item_well_formed, height, height_of_item}
-use Rattle.acl_model.specs.Lines.{is_line_feed, lacks, lines}
+use Rattle.acl_model.specs.Document.{greatest, is_document, is_raw_attribute, is_type, is_well_formed, item_well_formed, height, height_of_item}
+use Rattle.acl_model.specs.Lines.{is_line_feed, is_within_line, lacks, lines}
 use Rattle.acl_model.specs.Names.{is_name}
-use Rattle.acl_model.specs.Text.{line, element_text, item_text}
+use Rattle.acl_model.specs.Text.{line, text, element_text, item_text}
+use Rattle.acl_model.specs.Values.{attribute_name, attribute_type}
 use Rattle.acl_model.proofs.ByteLaws.{is_name-lacks}
 use Rattle.acl_model.proofs.FormEquations.{well_formed_is, item_well_formed-Text, item_well_formed-Child, height_is, height_of_item-Child}
-use Rattle.acl_model.proofs.LineLaws.{lines-as_line, lines-last}
+use Rattle.acl_model.proofs.LineLaws.{lines-as_line}
 use Rattle.acl_model.proofs.TextEquations.{element_text_is, item_text-Text, item_text-Child}
 use Rattle.acl_model.specs.declared.document.Doc.{Doc}
 use Rattle.acl_model.specs.declared.document.Item.{Item}
@@ -22,21 +22,21 @@ use Rattle.acl_model.specs.declared.document.Item.TheVariants.{Text, Child, roll
 use Rattle.acl_model.specs.declared.document.Item.TheOpen.{Item-F, Element-F}
 use Rattle.acl_model.specs.declared.document.Item.TheViews.{roll-Item, roll-Element}
 use Rattle.acl_model.specs.declared.document.Item.TheFolds.{ind-Element}
-use Rattle.esis_lines.specs.DocumentText.{is_bare, item_bare, IsDocumentText}
-use Rattle.esis_lines.specs.Machine.{State, OpenElement, line_of, step, run, answer_after_line, element_of_open, state_with_element, answer_of, read_doc_of}
-use Rattle.esis_lines.proofs.Bare.{bare_is, item_bare-Child}
+use Rattle.esis_lines.specs.Machine.{Line, State, OpenElement, run, state_after, says_closing, element_of_open, state_with_element}
+use Rattle.esis_lines.proofs.Kept.{is_kept}
+use Rattle.esis_lines.proofs.LineReadings.{LineIs, line_said}
+use Rattle.esis_lines.proofs.Running.{run_taken}
 
 -- ---- what is read from a state on
 
-pub reads : List ℕ → State → Result Doc ℕ
-reads bytes s = run (lines bytes) s
+-- From s on the bytes are read as the rest of the document, whatever the number of their first line, and each of their lines is of it.
+pub record Reads (bytes : List ℕ) (s : State) (d : Doc) : Type 0 where
+  pub run_is : (number : ℕ) → run number false (lines bytes) s ≡ Ok d
+  pub kept : list_all is_kept (lines bytes) ≡ true
 
-run_taken : (l : List ℕ) (ls : List (List ℕ)) (s next : State) (d : Doc) → step s (line_of l) ≡ Some next → run ls next ≡ Ok d → run (l ∷ ls) s ≡ Ok d
-run_taken l ls s next d is then = rw is (ap answer_after_line then)
-
--- From s on the bytes lead to next: where what follows them is a whole document from next on, all is one from s on.
+-- From s on the bytes lead to next: where what follows them is the rest from next on, all is the rest from s on.
 pub Passes : State → List ℕ → State → Type 0
-Passes s bytes next = (rest : List ℕ) (d : Doc) → reads rest next ≡ Ok d → reads (bytes ++ rest) s ≡ Ok d
+Passes s bytes next = (rest : List ℕ) (d : Doc) → Reads rest next d → Reads (bytes ++ rest) s d
 
 passes_none : (s : State) → Passes s [] s
 unfolding Passes
@@ -46,120 +46,184 @@ passes_both : (s mid next : State) (a b : List ℕ) → Passes s a mid → Passe
 unfolding Passes
 passes_both s mid next a b p q rest d h = rw append_assoc (p (b ++ rest) d (q rest d h))
 
-passes_line : (s next : State) (kind : ℕ) (argument : List ℕ) → lacks line_feed (kind ∷ argument) ≡ true → step s (line_of (kind ∷ argument)) ≡ Some next → Passes s (line kind argument) next
-unfolding Passes reads
-passes_line s next kind argument within is rest d h =
-    ap (λ bs. run (lines bs) s) (ap (λ bs. kind ∷ bs) (append_assoc argument (line_feed ∷ []) rest))
-    ∙ ap (λ ls. run ls s) (lines-as_line (kind ∷ argument) rest within)
-    ∙ run_taken (kind ∷ argument) (lines rest) s next d is h
+-- the line leads from s to next
+record Takes (s : State) (l : List ℕ) (next : State) : Type 0 where
+  said : Line
+  is : LineIs l said
+  took : (number : ℕ) → state_after number s said ≡ Ok next
+  open_yet : says_closing said ≡ false
+  kept : is_kept l ≡ true
 
--- ---- the three kinds of line
+passes_line : (s next : State) (kind : ℕ) (argument : List ℕ) → lacks line_feed (kind ∷ argument) ≡ true → Takes s (kind ∷ argument) next → Passes s (line kind argument) next
+unfolding Passes
+passes_line s next kind argument within t rest d h =
+    let l : List ℕ = kind ∷ argument in
+    let cut : lines (line kind argument ++ rest) ≡ l ∷ lines rest = ap (λ bs. lines (kind ∷ bs)) (append_assoc argument (line_feed ∷ []) rest) ∙ lines-as_line l rest within in
+    record {
+      run_is = λ number.
+          ap (λ ls. run number false ls s) cut
+          ∙ run_taken number l (lines rest) s next t.said (line_said number l t.said t.is) (t.took number)
+          ∙ ap (λ (closed : Bool). run (number + 1) closed (lines rest) next) t.open_yet
+          ∙ h.run_is (number + 1);
+      kept = ap (list_all is_kept) cut ∙ and_from (is_kept l) (list_all is_kept (lines rest)) t.kept h.kept;
+    }
+
+-- ---- the four kinds of line
 
 lacks-kind : (kind : ℕ) (argument : List ℕ) → is_line_feed kind ≡ false → lacks line_feed argument ≡ true → lacks line_feed (kind ∷ argument) ≡ true
 lacks-kind kind argument is h = and_from (not (nat_eq kind line_feed)) (lacks line_feed argument) (ap not is) h
 
-abbrev pub opened : List ℕ → List Item → OpenElement
-opened name items = record { name = name; items = items }
+abbrev pub opened : List ℕ → List (List ℕ) → List Item → OpenElement
+opened name attributes items = record { name = name; attributes = attributes; items = items }
 
-abbrev pub inside : List ℕ → List Item → List OpenElement → State
-inside name items around = State.Inside (opened name items ∷ around)
+abbrev pub inside : List ℕ → List (List ℕ) → List Item → List OpenElement → State
+inside name attributes items around = State.Inside [] (opened name attributes items ∷ around)
 
-start_step : (name : List ℕ) (around : List OpenElement) → is_name name ≡ true → length around < 255 → step (State.Inside around) (line_of (left_parenthesis ∷ name)) ≡ Some (inside name [] around)
-start_step name around is fits = let lt = lt-ltb (length around) 255 fits in rw is (rw lt refl)
+start_takes : (name : List ℕ) (waiting : List (List ℕ)) (around : List OpenElement) → is_name name ≡ true → length around < 255 → Takes (State.Inside waiting around) (left_parenthesis ∷ name) (inside name waiting [] around)
+unfolding LineIs
+start_takes name waiting around is fits = record {
+  said = Line.Starts name;
+  is = (refl, is);
+  took = λ number. (let lt = lt-ltb (length around) 255 fits in rw lt refl);
+  open_yet = refl;
+  kept = refl;
+}
 
-end_step : (name : List ℕ) (items : List Item) (around : List OpenElement) → is_name name ≡ true → step (inside name items around) (line_of (right_parenthesis ∷ name)) ≡ Some (state_with_element (element_of_open (opened name items)) around)
-end_step name items around is = let same = (bytes_eq-Decides name name).1 refl in rw is (rw same refl)
+end_takes : (name : List ℕ) (attributes : List (List ℕ)) (items : List Item) (around : List OpenElement) → is_name name ≡ true → Takes (inside name attributes items around) (right_parenthesis ∷ name) (state_with_element (element_of_open (opened name attributes items)) around)
+unfolding LineIs
+end_takes name attributes items around is = record {
+  said = Line.Ends name;
+  is = (refl, is);
+  took = λ number. (let same = (bytes_eq-Decides name name).1 refl in rw same refl);
+  open_yet = refl;
+  kept = refl;
+}
 
-passes_start : (name : List ℕ) (around : List OpenElement) → is_name name ≡ true → length around < 255 → Passes (State.Inside around) (line left_parenthesis name) (inside name [] around)
-passes_start name around is fits = passes_line (State.Inside around) (inside name [] around) left_parenthesis name (lacks-kind left_parenthesis name refl (is_name-lacks line_feed refl name is)) (start_step name around is fits)
+text_takes : (bytes name : List ℕ) (attributes : List (List ℕ)) (items : List Item) (around : List OpenElement) → Takes (inside name attributes items around) (hyphen ∷ bytes) (inside name attributes (items ++ Text bytes ∷ []) around)
+unfolding LineIs
+text_takes bytes name attributes items around = record {
+  said = Line.Says bytes;
+  is = refl;
+  took = λ number. refl;
+  open_yet = refl;
+  kept = refl;
+}
 
-passes_end : (name : List ℕ) (items : List Item) (around : List OpenElement) → is_name name ≡ true → Passes (inside name items around) (line right_parenthesis name) (state_with_element (element_of_open (opened name items)) around)
-passes_end name items around is = passes_line (inside name items around) (state_with_element (element_of_open (opened name items)) around) right_parenthesis name (lacks-kind right_parenthesis name refl (is_name-lacks line_feed refl name is)) (end_step name items around is)
+attribute_takes : (raw : List ℕ) (waiting : List (List ℕ)) (around : List OpenElement) → is_name (attribute_name raw) ≡ true → is_type (attribute_type raw) ≡ true → length waiting < 65535 → Takes (State.Inside waiting around) (capital_a ∷ raw) (State.Inside (waiting ++ raw ∷ []) around)
+unfolding LineIs
+attribute_takes raw waiting around named typed fits = record {
+  said = Line.Waits raw;
+  is = (refl, named, typed);
+  took = λ number. (let lt = lt-ltb (length waiting) 65535 fits in rw lt refl);
+  open_yet = refl;
+  kept = refl;
+}
 
-passes_text : (bytes : List ℕ) (name : List ℕ) (items : List Item) (around : List OpenElement) → lacks line_feed bytes ≡ true → Passes (inside name items around) (line hyphen bytes) (inside name (items ++ Text bytes ∷ []) around)
-passes_text bytes name items around h = passes_line (inside name items around) (inside name (items ++ Text bytes ∷ []) around) hyphen bytes (lacks-kind hyphen bytes refl h) refl
+passes_start : (name : List ℕ) (waiting : List (List ℕ)) (around : List OpenElement) → is_name name ≡ true → length around < 255 → Passes (State.Inside waiting around) (line left_parenthesis name) (inside name waiting [] around)
+passes_start name waiting around is fits = passes_line (State.Inside waiting around) (inside name waiting [] around) left_parenthesis name (lacks-kind left_parenthesis name refl (is_name-lacks line_feed refl name is)) (start_takes name waiting around is fits)
+
+passes_end : (name : List ℕ) (attributes : List (List ℕ)) (items : List Item) (around : List OpenElement) → is_name name ≡ true → Passes (inside name attributes items around) (line right_parenthesis name) (state_with_element (element_of_open (opened name attributes items)) around)
+passes_end name attributes items around is = passes_line (inside name attributes items around) (state_with_element (element_of_open (opened name attributes items)) around) right_parenthesis name (lacks-kind right_parenthesis name refl (is_name-lacks line_feed refl name is)) (end_takes name attributes items around is)
+
+passes_text : (bytes name : List ℕ) (attributes : List (List ℕ)) (items : List Item) (around : List OpenElement) → lacks line_feed bytes ≡ true → Passes (inside name attributes items around) (line hyphen bytes) (inside name attributes (items ++ Text bytes ∷ []) around)
+passes_text bytes name attributes items around h = passes_line (inside name attributes items around) (inside name attributes (items ++ Text bytes ∷ []) around) hyphen bytes (lacks-kind hyphen bytes refl h) (text_takes bytes name attributes items around)
+
+passes_attribute : (raw : List ℕ) (waiting : List (List ℕ)) (around : List OpenElement) → is_raw_attribute raw ≡ true → length waiting < 65535 → Passes (State.Inside waiting around) (line capital_a raw) (State.Inside (waiting ++ raw ∷ []) around)
+passes_attribute raw waiting around is fits =
+    let both : (is_name (attribute_name raw) && is_type (attribute_type raw)) ≡ true = first_so (is_name (attribute_name raw) && is_type (attribute_type raw)) (is_within_line raw) is in
+    let within : is_within_line raw ≡ true = second_so (is_name (attribute_name raw) && is_type (attribute_type raw)) (is_within_line raw) is in
+    passes_line (State.Inside waiting around) (State.Inside (waiting ++ raw ∷ []) around) capital_a raw (lacks-kind capital_a raw refl (second_so (are_bytes raw) (lacks line_feed raw) within))
+    (attribute_takes raw waiting around (first_so (is_name (attribute_name raw)) (is_type (attribute_type raw)) both) (second_so (is_name (attribute_name raw)) (is_type (attribute_type raw)) both) fits)
+
+-- attributes wait one behind the other
+passes_attributes : (raws waiting : List (List ℕ)) (around : List OpenElement) → list_all is_raw_attribute raws ≡ true → length waiting + length raws ≤ 65535 → Passes (State.Inside waiting around) (concat (map (line capital_a) raws)) (State.Inside (waiting ++ raws) around)
+passes_attributes [] waiting around all few = let same = append-nil waiting in rw same (passes_none (State.Inside waiting around))
+passes_attributes (raw ∷ raws) waiting around all few =
+    let more : List (List ℕ) = waiting ++ raw ∷ [] in
+    let long : length more ≡ length waiting + 1 = length-append waiting (raw ∷ []) in
+    let on = passes_attributes raws more around (second_so (is_raw_attribute raw) (list_all is_raw_attribute raws) all) (omega (arith, long, few)) in
+    let P : List (List ℕ) → Type 0 = λ w. Passes (State.Inside more around) (concat (map (line capital_a) raws)) (State.Inside w around) in
+    passes_both (State.Inside waiting around) (State.Inside more around) (State.Inside (waiting ++ raw ∷ raws) around) (line capital_a raw) (concat (map (line capital_a) raws))
+    (passes_attribute raw waiting around (first_so (is_raw_attribute raw) (list_all is_raw_attribute raws) all) (omega (arith, few)))
+    (subst P (append_assoc waiting (raw ∷ []) raws) on)
 
 -- ---- trees
 
 -- an item stands behind those that came before it
 pub ItemPasses : Item → Type 0
-ItemPasses i = (name : List ℕ) (before : List Item) (around : List OpenElement) → item_well_formed is_name i ≡ true → item_bare i ≡ true → height_of_item i + suc (length around) ≤ 255 → Passes (inside name before around) (item_text i) (inside name (before ++ i ∷ []) around)
+ItemPasses i = (name : List ℕ) (attributes : List (List ℕ)) (before : List Item) (around : List OpenElement) → item_well_formed is_name i ≡ true → height_of_item i + suc (length around) ≤ 255
+    → Passes (inside name attributes before around) (item_text i) (inside name attributes (before ++ i ∷ []) around)
 
--- an element's start and all its items
+-- an element's attributes, its start and all its items
 unfoldable pub content : Element → List ℕ
-content e = line left_parenthesis e.name ++ concat (map item_text e.items)
+content e = concat (map (line capital_a) e.attributes) ++ (line left_parenthesis e.name ++ concat (map item_text e.items))
 
 pub ElementPasses : Element → Type 0
-ElementPasses e = (around : List OpenElement) → is_well_formed is_name e ≡ true → is_bare e ≡ true → height e + length around ≤ 255 → Passes (State.Inside around) (content e) (inside e.name e.items around)
+ElementPasses e = (around : List OpenElement) → is_well_formed is_name e ≡ true → height e + length around ≤ 255 → Passes (State.Inside [] around) (content e) (inside e.name e.attributes e.items around)
 
-abbrev first_of_pair : {A : Type 0} {P : A → Type 0} → (x : A) × P x → A
-first_of_pair p = p.0
-
-items_pass : (ys : List ((i : Item) × ItemPasses i)) (name : List ℕ) (before : List Item) (around : List OpenElement) → list_all (λ b. b) (map (item_well_formed is_name) (map (λ y. y.0) ys)) ≡ true → list_all (λ b. b) (map item_bare (map (λ y. y.0) ys)) ≡ true → greatest (map height_of_item (map (λ y. y.0) ys)) + suc (length around) ≤ 255 → Passes (inside name before around) (concat (map item_text (map (λ y. y.0) ys))) (inside name (before ++ map (λ y. y.0) ys) around)
+items_pass : (ys : List ((i : Item) × ItemPasses i)) (name : List ℕ) (attributes : List (List ℕ)) (before : List Item) (around : List OpenElement) → list_all (λ b. b) (map (item_well_formed is_name) (map (λ y. y.0) ys)) ≡ true → greatest (map height_of_item (map (λ y. y.0) ys)) + suc (length around) ≤ 255
+    → Passes (inside name attributes before around) (concat (map item_text (map (λ y. y.0) ys))) (inside name attributes (before ++ map (λ y. y.0) ys) around)
 unfolding ItemPasses
-items_pass [] name before around well bare low = let same = append-nil before in rw same (passes_none (inside name before around))
-items_pass (y ∷ ys) name before around well bare low =
+items_pass [] name attributes before around well low = let same = append-nil before in rw same (passes_none (inside name attributes before around))
+items_pass (y ∷ ys) name attributes before around well low =
     let rest : List Item = map (λ z. z.0) ys in
     let well_here = first_so (item_well_formed is_name y.0) (list_all (λ b. b) (map (item_well_formed is_name) rest)) well in
     let well_on = second_so (item_well_formed is_name y.0) (list_all (λ b. b) (map (item_well_formed is_name) rest)) well in
-    let bare_here = first_so (item_bare y.0) (list_all (λ b. b) (map item_bare rest)) bare in
-    let bare_on = second_so (item_bare y.0) (list_all (λ b. b) (map item_bare rest)) bare in
     let low_here : height_of_item y.0 + suc (length around) ≤ 255 = omega (arith, low) in
     let low_on : greatest (map height_of_item rest) + suc (length around) ≤ 255 = omega (arith, low) in
     let more : List Item = before ++ y.0 ∷ [] in
-    let on = items_pass ys name more around well_on bare_on low_on in
-    let P : List Item → Type 0 = λ its. Passes (inside name more around) (concat (map item_text rest)) (inside name its around) in
-    passes_both (inside name before around) (inside name more around) (inside name (before ++ y.0 ∷ rest) around) (item_text y.0) (concat (map item_text rest))
-    (y.1 name before around well_here bare_here low_here)
+    let on = items_pass ys name attributes more around well_on low_on in
+    let P : List Item → Type 0 = λ its. Passes (inside name attributes more around) (concat (map item_text rest)) (inside name attributes its around) in
+    passes_both (inside name attributes before around) (inside name attributes more around) (inside name attributes (before ++ y.0 ∷ rest) around) (item_text y.0) (concat (map item_text rest))
+    (y.1 name attributes before around well_here low_here)
     (subst P (append_assoc before (y.0 ∷ []) rest) on)
 
-pub no_attributes : (raws : List (List ℕ)) → nat_eq (length raws) 0 ≡ true → raws ≡ []
-no_attributes [] h = refl
-no_attributes (r ∷ rs) h = absurd (let is = eqb-true (length (r ∷ rs)) 0 h in omega arith)
+-- what the form of an element says
+pub record IsFormed (e : Element) : Type 0 where
+  pub name : is_name e.name ≡ true
+  pub few : length e.attributes ≤ 65535
+  pub raw : list_all is_raw_attribute e.attributes ≡ true
+  pub items : list_all (λ b. b) (map (item_well_formed is_name) e.items) ≡ true
 
-pub attributes_none : (e : Element) → is_bare e ≡ true → e.attributes ≡ []
-attributes_none e bare = no_attributes e.attributes (first_so (nat_eq (length e.attributes) 0) (list_all (λ b. b) (map item_bare e.items)) (sym (bare_is e) ∙ bare))
-
-closed_is : (e : Element) → is_bare e ≡ true → element_of_open (opened e.name e.items) ≡ e
-closed_is e bare = let make : List (List ℕ) → Element = λ a. record { name = e.name; attributes = a; items = e.items } in ap make (sym (attributes_none e bare))
-
-pub element_name : (e : Element) → is_well_formed is_name e ≡ true → is_name e.name ≡ true
-element_name e well =
+pub formed : (e : Element) → is_well_formed is_name e ≡ true → IsFormed e
+formed e well =
     let all = sym (well_formed_is is_name e) ∙ well in
     let a : Bool = nat_le (length e.attributes) 65535 in
     let b : Bool = list_all is_raw_attribute e.attributes in
     let c : Bool = list_all (λ b. b) (map (item_well_formed is_name) e.items) in
-    first_so (is_name e.name) a (first_so (is_name e.name && a) b (first_so (is_name e.name && a && b) c all))
-
-element_items : (e : Element) → is_well_formed is_name e ≡ true → list_all (λ b. b) (map (item_well_formed is_name) e.items) ≡ true
-element_items e well = second_so (is_name e.name && nat_le (length e.attributes) 65535 && list_all is_raw_attribute e.attributes) (list_all (λ b. b) (map (item_well_formed is_name) e.items)) (sym (well_formed_is is_name e) ∙ well)
-
-bare_items : (e : Element) → is_bare e ≡ true → list_all (λ b. b) (map item_bare e.items) ≡ true
-bare_items e bare = second_so (nat_eq (length e.attributes) 0) (list_all (λ b. b) (map item_bare e.items)) (sym (bare_is e) ∙ bare)
+    let front = first_so (is_name e.name && a && b) c all in
+    let named = first_so (is_name e.name && a) b front in
+    record {
+      name = first_so (is_name e.name) a named;
+      few = leb-true (length e.attributes) 65535 (second_so (is_name e.name) a named);
+      raw = second_so (is_name e.name && a) b front;
+      items = second_so (is_name e.name && a && b) c all;
+    }
 
 -- an element's text ends with its end
-pub text_is_content : (e : Element) → is_bare e ≡ true → element_text e ≡ content e ++ line right_parenthesis e.name
+pub text_is_content : (e : Element) → element_text e ≡ content e ++ line right_parenthesis e.name
 unfolding content
-text_is_content e bare = let none = attributes_none e bare in
-    element_text_is e ∙ ap (λ raws. concat (map (line capital_a) raws) ++ (line left_parenthesis e.name ++ (concat (map item_text e.items) ++ line right_parenthesis e.name))) none
-    ∙ sym (append_assoc (line left_parenthesis e.name) (concat (map item_text e.items)) (line right_parenthesis e.name))
+text_is_content e =
+    let attributes : List ℕ = concat (map (line capital_a) e.attributes) in
+    let start : List ℕ = line left_parenthesis e.name in
+    let items : List ℕ = concat (map item_text e.items) in
+    let end : List ℕ = line right_parenthesis e.name in
+    element_text_is e ∙ ap (λ t. attributes ++ t) (sym (append_assoc start items end)) ∙ sym (append_assoc attributes (start ++ items) end)
 
 text_passes : (bytes : List ℕ) → ItemPasses (Text bytes)
 unfolding ItemPasses
-text_passes bytes name before around well bare low = rw item_text-Text (passes_text bytes name before around (second_so (are_bytes bytes) (lacks line_feed bytes) (sym (item_well_formed-Text is_name bytes) ∙ well)))
+text_passes bytes name attributes before around well low = rw item_text-Text (passes_text bytes name attributes before around (second_so (are_bytes bytes) (lacks line_feed bytes) (sym (item_well_formed-Text is_name bytes) ∙ well)))
 
 child_passes : (e : Element) → ElementPasses e → ItemPasses (Child e)
 unfolding ItemPasses ElementPasses
-child_passes e h name before around well bare low =
+child_passes e h name attributes before around well low =
     let well_e = sym (item_well_formed-Child is_name e) ∙ well in
-    let bare_e = sym (item_bare-Child e) ∙ bare in
-    let low_e : height e + length (opened name before ∷ around) ≤ 255 = let is = height_of_item-Child e in omega (arith, low, is) in
-    let o : List OpenElement = opened name before ∷ around in
-    let whole = passes_both (State.Inside o) (inside e.name e.items o) (state_with_element (element_of_open (opened e.name e.items)) o) (content e) (line right_parenthesis e.name)
-    (h o well_e bare_e low_e) (passes_end e.name e.items o (element_name e well_e)) in
-    let P : Element → Type 0 = λ c. Passes (State.Inside o) (content e ++ line right_parenthesis e.name) (state_with_element c o) in
-    let Q : List ℕ → Type 0 = λ bs. Passes (State.Inside o) bs (state_with_element e o) in
-    subst Q (sym (item_text-Child e ∙ text_is_content e bare_e)) (subst P (closed_is e bare_e) whole)
+    let low_e : height e + length (opened name attributes before ∷ around) ≤ 255 = let is = height_of_item-Child e in omega (arith, low, is) in
+    let o : List OpenElement = opened name attributes before ∷ around in
+    let whole = passes_both (State.Inside [] o) (inside e.name e.attributes e.items o) (state_with_element e o) (content e) (line right_parenthesis e.name)
+    (h o well_e low_e) (passes_end e.name e.attributes e.items o (formed e well_e).name) in
+    let Q : List ℕ → Type 0 = λ bs. Passes (State.Inside [] o) bs (state_with_element e o) in
+    subst Q (sym (item_text-Child e ∙ text_is_content e)) whole
 
 abbrev firsts : Item-F ((i : Item) × ItemPasses i) ((e : Element) × ElementPasses e) → Item-F Item Element
 firsts (Item-F.Text bytes) = Item-F.Text bytes
@@ -174,13 +238,17 @@ made name attributes items = roll-Element (record { name = name; attributes = at
 
 element_made : (y : Element-F ((i : Item) × ItemPasses i) ((e : Element) × ElementPasses e)) → ElementPasses (made y.name y.attributes (map (λ p. p.0) y.items))
 unfolding ElementPasses content
-element_made y around well bare low =
+element_made y around well low =
     let e : Element = made y.name y.attributes (map (λ p. p.0) y.items) in
+    let f = formed e well in
+    let few : 0 + length e.attributes ≤ 65535 = omega (arith, f.few) in
     let low_here : length around < 255 = let is = height_is e in omega (arith, low, is) in
     let low_items : greatest (map height_of_item e.items) + suc (length around) ≤ 255 = let is = height_is e in omega (arith, low, is) in
-    passes_both (State.Inside around) (inside e.name [] around) (inside e.name e.items around) (line left_parenthesis e.name) (concat (map item_text e.items))
-    (passes_start e.name around (element_name e well) low_here)
-    (items_pass y.items e.name [] around (element_items e well) (bare_items e bare) low_items)
+    passes_both (State.Inside [] around) (State.Inside e.attributes around) (inside e.name e.attributes e.items around) (concat (map (line capital_a) e.attributes)) (line left_parenthesis e.name ++ concat (map item_text e.items))
+    (passes_attributes e.attributes [] around f.raw few)
+    (passes_both (State.Inside e.attributes around) (inside e.name e.attributes [] around) (inside e.name e.attributes e.items around) (line left_parenthesis e.name) (concat (map item_text e.items))
+    (passes_start e.name e.attributes around f.name low_here)
+    (items_pass y.items e.name e.attributes [] around f.items low_items))
 
 pub elements_pass : (e : Element) → ElementPasses e
 elements_pass = ind-Element ItemPasses ElementPasses
@@ -189,39 +257,14 @@ elements_pass = ind-Element ItemPasses ElementPasses
 
 -- ---- whole documents
 
-ends_document : (e : Element) → is_well_formed is_name e ≡ true → is_bare e ≡ true → step (inside e.name e.items []) (line_of (right_parenthesis ∷ e.name)) ≡ Some (State.After e)
-ends_document e well bare = end_step e.name e.items [] (element_name e well) ∙ ap (λ (c : Element). Some (State.After c)) (closed_is e bare)
-
-reads_end : (e : Element) → is_well_formed is_name e ≡ true → is_bare e ≡ true → reads (right_parenthesis ∷ e.name) (inside e.name e.items []) ≡ Ok (record { root = e })
-unfolding reads
-reads_end e well bare =
-    ap (λ ls. run ls (inside e.name e.items [])) (lines-last right_parenthesis e.name (lacks-kind right_parenthesis e.name refl (is_name-lacks line_feed refl e.name (element_name e well))))
-    ∙ run_taken (right_parenthesis ∷ e.name) [] (inside e.name e.items []) (State.After e) (record { root = e }) (ends_document e well bare) refl
-
-reads_end_whole : (e : Element) → is_well_formed is_name e ≡ true → is_bare e ≡ true → reads (line right_parenthesis e.name) (inside e.name e.items []) ≡ Ok (record { root = e })
-unfolding reads
-reads_end_whole e well bare =
-    ap (λ ls. run ls (inside e.name e.items [])) (lines-as_line (right_parenthesis ∷ e.name) [] (lacks-kind right_parenthesis e.name refl (is_name-lacks line_feed refl e.name (element_name e well))))
-    ∙ run_taken (right_parenthesis ∷ e.name) [] (inside e.name e.items []) (State.After e) (record { root = e }) (ends_document e well bare) refl
-
-reads_content : (e : Element) (rest : List ℕ) (d : Doc) → is_well_formed is_name e ≡ true → is_bare e ≡ true → height e ≤ 255 → reads rest (inside e.name e.items []) ≡ Ok d → reads (content e ++ rest) (State.Inside []) ≡ Ok d
+-- The text of a document is read as that document, and each of its lines is of it.
+pub text_reads : (d : Doc) → is_document d ≡ true → Reads (text d) (State.Inside [] []) d
 unfolding ElementPasses Passes
-reads_content e rest d well bare low h = elements_pass e [] well bare (omega (arith, low)) rest d h
-
-read_is : (bytes : List ℕ) (d : Doc) → reads bytes (State.Inside []) ≡ Ok d → read_doc_of bytes ≡ Ok d
-unfolding reads
-read_is bytes d h = ap answer_of h
-
-cut_feed : (bytes front name : List ℕ) → bytes ++ line_feed ∷ [] ≡ front ++ line right_parenthesis name → front ++ (right_parenthesis ∷ name) ≡ bytes
-cut_feed bytes front name h = append_cancel_right (front ++ (right_parenthesis ∷ name)) bytes (line_feed ∷ []) (append_assoc front (right_parenthesis ∷ name) (line_feed ∷ []) ∙ sym h)
-
--- what is a document's text is read as that document
-pub read_document : (d : Doc) (bytes : List ℕ) → IsDocumentText d bytes → read_doc_of bytes ≡ Ok d
-read_document d bytes is =
-    let well = first_so (is_well_formed is_name d.root) (nat_le (height d.root) 255) is.0 in
-    let low = leb-true (height d.root) 255 (second_so (is_well_formed is_name d.root) (nat_le (height d.root) 255) is.0) in
-    let text = text_is_content d.root is.1 in
-    read_is bytes d (elim is.2 [
-      | inl whole ↦ subst (λ (bs : List ℕ). reads bs (State.Inside []) ≡ Ok d) (sym (whole ∙ text)) (reads_content d.root (line right_parenthesis d.root.name) d well is.1 low (reads_end_whole d.root well is.1))
-      | inr short ↦ subst (λ (bs : List ℕ). reads bs (State.Inside []) ≡ Ok d) (cut_feed bytes (content d.root) d.root.name (short ∙ text)) (reads_content d.root (right_parenthesis ∷ d.root.name) d well is.1 low (reads_end d.root well is.1))
-    ])
+text_reads d is =
+    let e : Element = d.root in
+    let well = first_so (is_well_formed is_name e) (nat_le (height e) 255) is in
+    let low : height e + 0 ≤ 255 = let h = leb-true (height e) 255 (second_so (is_well_formed is_name e) (nat_le (height e) 255) is) in omega (arith, h) in
+    let done : Reads [] (State.After e) d = record { run_is = λ number. refl; kept = refl } in
+    let end : Reads (line right_parenthesis e.name) (inside e.name e.attributes e.items []) d =
+    subst (λ (bs : List ℕ). Reads bs (inside e.name e.attributes e.items []) d) (append-nil (line right_parenthesis e.name)) (passes_end e.name e.attributes e.items [] (formed e well).name [] d done) in
+    subst (λ (bs : List ℕ). Reads bs (State.Inside [] []) d) (sym (text_is_content e)) (elements_pass e [] well low (line right_parenthesis e.name) d end)

@@ -1,59 +1,73 @@
 -- One line more: how the answer to what is left follows from the step.
-use Rattle.std.proofs.Common.{◌≡◌, ℕ, Option, Some, None, Result, Ok, Err, List, [], ◌∷◌, refl, sym, ap, subst, ◌∙◌}
-use Rattle.std.specs.Option.{ok_or}
-use Rattle.std.specs.Result.{result_ok}
-use Rattle.acl_model.specs.Lines.{lines}
+use Rattle.std.proofs.Common.{◌≡◌, ℕ, ◌+◌, Bool, true, false, Result, Ok, Err, List, [], ◌∷◌, length, nat_eq, nat_lt, refl, sym, ap, ◌∙◌, if◌then◌else◌}
+use Rattle.std.specs.Cmp.Lexicographic.{pointwise}
 use Rattle.acl_model.specs.declared.document.Doc.{Doc}
 use Rattle.esis_lines.specs.declared.doc_fault.DocFault.{DocFault}
-use Rattle.esis_lines.specs.declared.doc_fault.DocFault.TheVariants.{BadLine}
-use Rattle.esis_lines.specs.Answers.{ButForMemory}
-use Rattle.esis_lines.specs.Machine.{State, Line, read_doc_of, line_of, step, run, answer_after_line, answer_of, document_of_state}
+use Rattle.esis_lines.specs.declared.doc_fault.DocFault.TheVariants.{Unbalanced, TooDeep, TooManyAttributes}
+use Rattle.esis_lines.specs.LineForms.{is_closing}
+use Rattle.esis_lines.specs.Machine.{State, Line, line_of, run, state_after, state_after_line, answer_from_step, says_closing}
+use Rattle.esis_lines.proofs.LineReadings.{not_ok, closing_is, line_is, line_said}
 
--- the answer with the number of the refused line left aside
-pub answer : List ℕ → State → Result Doc DocFault
-answer bytes s = answer_of (run (lines bytes) s)
+-- the run over a line that says something, from the state that it leaves
+on_said : (number : ℕ) (l : List ℕ) (ls : List (List ℕ)) (s : State) (r : Result State DocFault) → state_after_line number s (line_of number l) ≡ r → run number false (l ∷ ls) s ≡ answer_from_step r (run (number + 1) (is_closing l) ls)
+on_said number l ls s r is = ap (λ (q : Result State DocFault). answer_from_step q (run (number + 1) (is_closing l) ls)) is
 
-answer_of-after_line : (r : Result Doc ℕ) → answer_of (answer_after_line r) ≡ answer_of r
-answer_of-after_line (Ok d) = refl
-answer_of-after_line (Err n) = refl
+-- A line is taken.
+pub run_taken : (number : ℕ) (l : List ℕ) (ls : List (List ℕ)) (s next : State) (x : Line) → line_of number l ≡ Ok x → state_after number s x ≡ Ok next → run number false (l ∷ ls) s ≡ run (number + 1) (says_closing x) ls next
+run_taken number l ls s next x said took =
+    on_said number l ls s (Ok next) (ap (state_after_line number s) said ∙ took)
+    ∙ ap (λ (c : Bool). run (number + 1) c ls next) (closing_is number l x said)
 
-run_taken : (l : List ℕ) (ls : List (List ℕ)) (s next : State) → step s (line_of l) ≡ Some next → answer_of (run (l ∷ ls) s) ≡ answer_of (run ls next)
-run_taken l ls s next is = rw is (answer_of-after_line (run ls next))
+-- ---- the number of a line changes no state
 
-run_refused : (l : List ℕ) (ls : List (List ℕ)) (s : State) → step s (line_of l) ≡ None → answer_of (run (l ∷ ls) s) ≡ Err (BadLine 0)
-run_refused l ls s is = rw is refl
+same_choice : (b : Bool) (x next : State) (e f : DocFault) → ◌≡◌ {A = Result State DocFault} (if b then Ok x else Err e) (Ok next) → ◌≡◌ {A = Result State DocFault} (if b then Ok x else Err f) (Ok next)
+same_choice true x next e f h = h
+same_choice false x next e f h = cc
 
-pub answer_whole : (bytes : List ℕ) → answer bytes (State.Inside []) ≡ read_doc_of bytes
-unfolding answer
-answer_whole bytes = refl
+state_after-number : (n m : ℕ) (s next : State) (x : Line) → state_after n s x ≡ Ok next → state_after m s x ≡ Ok next
+state_after-number n m (State.Inside waiting opened) next (Line.Starts name) h = same_choice (nat_lt (length opened) 255) _ next (TooDeep n) (TooDeep m) h
+state_after-number n m (State.Inside [] []) next (Line.Ends name) h = cc
+state_after-number n m (State.Inside [] (o ∷ around)) next (Line.Ends name) h = same_choice (pointwise nat_eq o.name name) _ next (Unbalanced n) (Unbalanced m) h
+state_after-number n m (State.Inside (raw ∷ waiting) opened) next (Line.Ends name) h = cc
+state_after-number n m (State.Inside [] []) next (Line.Says bytes) h = cc
+state_after-number n m (State.Inside [] (o ∷ around)) next (Line.Says bytes) h = h
+state_after-number n m (State.Inside (raw ∷ waiting) opened) next (Line.Says bytes) h = cc
+state_after-number n m (State.Inside waiting opened) next (Line.Waits raw) h = same_choice (nat_lt (length waiting) 65535) _ next (TooManyAttributes n) (TooManyAttributes m) h
+state_after-number n m (State.Inside waiting opened) next Line.PassesBy h = h
+state_after-number n m (State.Inside [] []) next Line.Closes h = h
+state_after-number n m (State.Inside [] (o ∷ around)) next Line.Closes h = cc
+state_after-number n m (State.Inside (raw ∷ waiting) opened) next Line.Closes h = cc
+state_after-number n m (State.After root) next (Line.Starts name) h = cc
+state_after-number n m (State.After root) next (Line.Ends name) h = cc
+state_after-number n m (State.After root) next (Line.Says bytes) h = cc
+state_after-number n m (State.After root) next (Line.Waits raw) h = cc
+state_after-number n m (State.After root) next Line.PassesBy h = h
+state_after-number n m (State.After root) next Line.Closes h = h
 
--- what a step says, where the line was classified
-step-line_of : (s : State) (line : List ℕ) (l : Option Line) (r : Option State) → l ≡ line_of line → r ≡ step s l → step s (line_of line) ≡ r
-step-line_of s line l r is took = sym (took ∙ ap (step s) is)
+-- ---- what a run that gives a document does with its first line
 
--- a line that is taken
-pub answer_taken : (bytes line rest : List ℕ) (l : Option Line) (s next : State) → lines bytes ≡ line ∷ lines rest → l ≡ line_of line → Some next ≡ step s l → answer rest next ≡ answer bytes s
-unfolding answer
-answer_taken bytes line rest l s next cut is took =
-    sym (ap (λ ls. answer_of (run ls s)) cut ∙ run_taken line (lines rest) s next (step-line_of s line l (Some next) is took))
+-- the line says something, and leads to a state from which the others give the document
+pub record Goes (number : ℕ) (l : List ℕ) (ls : List (List ℕ)) (s : State) (d : Doc) : Type 0 where
+  pub said : Line
+  pub next : State
+  pub is : line_of number l ≡ Ok said
+  pub took : state_after number s said ≡ Ok next
+  pub on : run (number + 1) (says_closing said) ls next ≡ Ok d
 
--- a line that is refused
-pub answer_refused : (bytes line rest : List ℕ) (l : Option Line) (s : State) → lines bytes ≡ line ∷ lines rest → l ≡ line_of line → None ≡ step s l → Err (BadLine 0) ≡ answer bytes s
-unfolding answer
-answer_refused bytes line rest l s cut is took =
-    sym (ap (λ ls. answer_of (run ls s)) cut ∙ run_refused line (lines rest) s (step-line_of s line l None is took))
+goes_took : (number : ℕ) (l : List ℕ) (ls : List (List ℕ)) (s : State) (d : Doc) (x : Line) (r : Result State DocFault) → line_of number l ≡ Ok x → state_after number s x ≡ r
+    → answer_from_step r (run (number + 1) (says_closing x) ls) ≡ Ok d → Goes number l ls s d
+goes_took number l ls s d x (Ok next) is took h = record { said = x; next = next; is = is; took = took; on = h }
+goes_took number l ls s d x (Err fault) is took h = not_ok d fault h
 
--- the answer where the machine stands after the last line
-run_ends : (s : State) → answer_of (document_of_state s) ≡ ok_or (result_ok (document_of_state s)) (BadLine 0)
-run_ends (State.Inside opened) = refl
-run_ends (State.After root) = refl
+goes_said : (number : ℕ) (l : List ℕ) (ls : List (List ℕ)) (s : State) (d : Doc) (r : Result Line DocFault) → line_of number l ≡ r
+    → answer_from_step (state_after_line number s r) (run (number + 1) (is_closing l) ls) ≡ Ok d → Goes number l ls s d
+goes_said number l ls s d (Ok x) is h = goes_took number l ls s d x (state_after number s x) is refl
+    (ap (λ (c : Bool). answer_from_step (state_after number s x) (run (number + 1) c ls)) (sym (closing_is number l x is)) ∙ h)
+goes_said number l ls s d (Err fault) is h = not_ok d fault h
 
--- no line more
-pub answer_ends : (bytes : List ℕ) (s : State) → lines bytes ≡ [] → answer bytes s ≡ ok_or (result_ok (document_of_state s)) (BadLine 0)
-unfolding answer
-answer_ends bytes s none = ap (λ ls. answer_of (run ls s)) none ∙ run_ends s
+pub goes : (number : ℕ) (l : List ℕ) (ls : List (List ℕ)) (s : State) (d : Doc) → run number false (l ∷ ls) s ≡ Ok d → Goes number l ls s d
+goes number l ls s d h = goes_said number l ls s d (line_of number l) refl h
 
--- an answer that is not NoMemory is the wanted one
-pub but_for_memory : (d : Option Doc) (r : Result Doc DocFault) → r ≡ ok_or d (BadLine 0) → (wanted : Result Doc DocFault) → ok_or d (BadLine 0) ≡ wanted → ButForMemory r wanted
-but_for_memory None r is wanted e = subst (λ (v : Result Doc DocFault). ButForMemory v wanted) (sym is) e
-but_for_memory (Some d) r is wanted e = subst (λ (v : Result Doc DocFault). ButForMemory v wanted) (sym is) e
+-- Such a line, under any other number, leads to the same state.
+pub goes_again : (number m : ℕ) (l : List ℕ) (ls more : List (List ℕ)) (s : State) (d : Doc) (g : Goes number l ls s d) → run m false (l ∷ more) s ≡ run (m + 1) (says_closing g.said) more g.next
+goes_again number m l ls more s d g = run_taken m l more s g.next g.said (line_said m l g.said (line_is number l g.said g.is)) (state_after-number number m s g.next g.said g.took)

@@ -1,31 +1,49 @@
 -- What is answered for the bytes of a source, and what is taken from it. This project's own.
-use Rattle.std.specs.Prelude.{◌≡◌, ℕ, ◌<◌, nat_le, Bool, true, false, if◌then◌else◌, ◌⊎◌, Option, Some, None, Result, Ok, Err, List, length, drop}
+use Rattle.std.specs.Prelude.{◌≡◌, ℕ, ◌<◌, nat_le, Bool, true, false, if◌then◌else◌, Option, Some, None, Result, Ok, Err, List, length, drop}
+use Rattle.acl_model.specs.Lines.{lines}
 use Rattle.acl_model.specs.declared.document.Doc.{Doc}
 use Rattle.esis_lines.specs.declared.doc_fault.DocFault.{DocFault}
-use Rattle.esis_lines.specs.declared.doc_fault.DocFault.TheVariants.{BadLine, SourceFault, NoMemory}
+use Rattle.esis_lines.specs.declared.doc_fault.DocFault.TheVariants.{BadLine, Unsupported, Unbalanced, NoRoot, SecondRoot, TooDeep, NameTooLong, InputTooLong, SourceFault, TooManyAttributes, NoMemory}
 use Rattle.esis_lines.specs.DocumentText.{IsDocumentText}
 use Rattle.esis_lines.specs.Machine.{read_doc_of}
+use Rattle.esis_lines.specs.Refusals.{IsRefused}
 
 -- The text of a document has at most so many bytes as it stands in a source: 32 MiB.
 abbrev pub most_document_bytes : ℕ
 most_document_bytes = 33554432
 
--- what the bytes mean, where they are within a limit. More bytes are no document.
+-- what the bytes mean, where they are within a limit
 abbrev pub answer_within : ℕ → List ℕ → Result Doc DocFault
-answer_within most bytes = if nat_le (length bytes) most then read_doc_of bytes else Err (BadLine 0)
+answer_within most bytes = if nat_le (length bytes) most then read_doc_of bytes else Err (InputTooLong most)
 
 -- The answer is the wanted one, but that NoMemory may stand in its place.
-abbrev pub ButForMemory : Result Doc DocFault → Result Doc DocFault → Type 0
-ButForMemory (Ok d) wanted = Ok d ≡ wanted
+abbrev pub ButForMemory : {A : Type 0} → Result A DocFault → Result A DocFault → Type 0
+ButForMemory (Ok x) wanted = Ok x ≡ wanted
 ButForMemory (Err (BadLine line)) wanted = Err (BadLine line) ≡ wanted
+ButForMemory (Err (Unsupported line kind)) wanted = Err (Unsupported line kind) ≡ wanted
+ButForMemory (Err (Unbalanced line)) wanted = Err (Unbalanced line) ≡ wanted
+ButForMemory (Err NoRoot) wanted = Err NoRoot ≡ wanted
+ButForMemory (Err (SecondRoot line)) wanted = Err (SecondRoot line) ≡ wanted
+ButForMemory (Err (TooDeep line)) wanted = Err (TooDeep line) ≡ wanted
+ButForMemory (Err (NameTooLong line)) wanted = Err (NameTooLong line) ≡ wanted
+ButForMemory (Err (InputTooLong limit)) wanted = Err (InputTooLong limit) ≡ wanted
 ButForMemory (Err SourceFault) wanted = Err SourceFault ≡ wanted
+ButForMemory (Err (TooManyAttributes line)) wanted = Err (TooManyAttributes line) ≡ wanted
 ButForMemory (Err NoMemory) wanted = Unit {0}
 
--- The fact holds where the answer is about the bytes: a document, or that they are none.
+-- The fact holds where the answer is about the bytes: a document, or why they are none.
 abbrev pub IfAboutBytes : Result Doc DocFault → Type 0 → Type 0
 IfAboutBytes (Ok d) fact = fact
 IfAboutBytes (Err (BadLine line)) fact = fact
+IfAboutBytes (Err (Unsupported line kind)) fact = fact
+IfAboutBytes (Err (Unbalanced line)) fact = fact
+IfAboutBytes (Err NoRoot) fact = fact
+IfAboutBytes (Err (SecondRoot line)) fact = fact
+IfAboutBytes (Err (TooDeep line)) fact = fact
+IfAboutBytes (Err (NameTooLong line)) fact = fact
+IfAboutBytes (Err (InputTooLong limit)) fact = fact
 IfAboutBytes (Err SourceFault) fact = Unit {0}
+IfAboutBytes (Err (TooManyAttributes line)) fact = fact
 IfAboutBytes (Err NoMemory) fact = Unit {0}
 
 -- All bytes to come were taken, or so many of them where there are more, if the source tells them.
@@ -34,16 +52,32 @@ TakesUpTo most None new = Unit {0}
 TakesUpTo most (Some before) None = ⊥
 TakesUpTo most (Some before) (Some after) = after ≡ drop most before
 
--- A document is answered for its text alone, and a bad line where there are too many bytes or no document has this text.
+-- A document is answered for its text alone, a fault of the lines where they are refused by it, and a limit where there are more bytes.
 abbrev pub IsTrueAnswer : Result Doc DocFault → ℕ → List ℕ → Type 0
 IsTrueAnswer (Ok d) most bytes = IsDocumentText d bytes
-IsTrueAnswer (Err (BadLine line)) most bytes = (most < length bytes) ⊎ ((d : Doc) → IsDocumentText d bytes → ⊥)
+IsTrueAnswer (Err (BadLine line)) most bytes = IsRefused (BadLine line) (lines bytes)
+IsTrueAnswer (Err (Unsupported line kind)) most bytes = IsRefused (Unsupported line kind) (lines bytes)
+IsTrueAnswer (Err (Unbalanced line)) most bytes = IsRefused (Unbalanced line) (lines bytes)
+IsTrueAnswer (Err NoRoot) most bytes = IsRefused NoRoot (lines bytes)
+IsTrueAnswer (Err (SecondRoot line)) most bytes = IsRefused (SecondRoot line) (lines bytes)
+IsTrueAnswer (Err (TooDeep line)) most bytes = IsRefused (TooDeep line) (lines bytes)
+IsTrueAnswer (Err (NameTooLong line)) most bytes = IsRefused (NameTooLong line) (lines bytes)
+IsTrueAnswer (Err (InputTooLong limit)) most bytes = (limit ≡ most) × (most < length bytes)
 IsTrueAnswer (Err SourceFault) most bytes = Unit {0}
+IsTrueAnswer (Err (TooManyAttributes line)) most bytes = IsRefused (TooManyAttributes line) (lines bytes)
 IsTrueAnswer (Err NoMemory) most bytes = Unit {0}
 
 -- The answer is that the source failed.
 abbrev pub is_source_fault : Result Doc DocFault → Bool
 is_source_fault (Ok d) = false
 is_source_fault (Err (BadLine line)) = false
+is_source_fault (Err (Unsupported line kind)) = false
+is_source_fault (Err (Unbalanced line)) = false
+is_source_fault (Err NoRoot) = false
+is_source_fault (Err (SecondRoot line)) = false
+is_source_fault (Err (TooDeep line)) = false
+is_source_fault (Err (NameTooLong line)) = false
+is_source_fault (Err (InputTooLong limit)) = false
 is_source_fault (Err SourceFault) = true
+is_source_fault (Err (TooManyAttributes line)) = false
 is_source_fault (Err NoMemory) = false

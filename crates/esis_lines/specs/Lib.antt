@@ -2,5 +2,7 @@ pub mod Answers
 pub mod CodeValues
 pub mod DocumentText
 pub mod Input
+pub mod LineForms
 pub mod Machine
 pub mod Output
+pub mod Refusals

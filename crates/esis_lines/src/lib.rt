@@ -2,6 +2,7 @@
 //! its bytes are read as a document, and a document is written line by line.
 #![tactic(auto)]
 
+mod appending;
 mod doc_fault;
 mod document_of;
 mod input;
@@ -14,7 +15,11 @@ mod reading;
 
 pub use doc_fault::DocFault;
 pub use input::{ReadAllFault, read_all};
-pub use laws::{a_text_is_of_one_document, reads_documents_alone, reads_every_document};
+pub use laws::{
+    a_text_is_of_one_document, reads_documents_alone, reads_every_document, refusals_are_of_lines,
+    refuses_all_of_the_table, refuses_by_the_table, what_is_refused_is_no_document,
+    what_is_written_is_read,
+};
 pub use output::write_doc;
 pub use reading::{MOST_DOCUMENT_BYTES, read_doc};
 

@@ -4,15 +4,17 @@ ghost use Rattle.std.specs.Prelude.{◌≡◌, ◌++◌, ◌∷◌, [], IfOk, On
 ghost use Rattle.acl_model.specs.declared.document.Element.{Element};
 ghost use Rattle.esis_lines.specs.Machine.{OpenElement, element_of_open, with_item};
 
-use acl_model::{Element, Item, Name, Sequence};
+use crate::appending::append;
+use acl_model::{Bytes, Element, Item, Name, Sequence};
 use sqlite_items::Items;
 use std::alloc::{AllocError, Global};
 use std::marker::Model;
 
-/// The name of an open element and what came inside it so far.
+/// The name and the attributes of an open element, and what came inside it so far.
 #[derive(Drop)]
 pub struct OpenElement {
     name: Name,
+    attributes: Sequence<Bytes>,
     items: Vec<Item>,
 }
 
@@ -25,17 +27,23 @@ impl Model for OpenElement {
 
     ghost coded = { Prim.hlevel (codes, item.the_row.coded) };
 
-    ghost view = { λ o. record { name = o.name; items = o.items.items } };
+    ghost view = { λ o. record { name = o.name; attributes = o.attributes; items = o.items.items } };
 }
 
 impl OpenElement {
     /// An element that starts here.
-    pub fn new(alloc: Global, name: &[u8]) -> Result<OpenElement, AllocError>
-        ensures { IfOk result (λ o. o ≡ record { name = name.now; items = [] }) }
+    pub fn new(
+        alloc: Global,
+        name: &[u8],
+        attributes: Vec<Bytes>,
+    ) -> Result<OpenElement, AllocError>
+        ensures { IfOk result (λ o.
+            o ≡ record { name = name.now; attributes = attributes.items; items = [] }) }
     {
         let name = Sequence::from_slice(alloc, name)?;
         Ok(OpenElement {
             name,
+            attributes: Sequence::from_vec(attributes),
             items: Vec::new(alloc),
         })
     }
@@ -48,21 +56,24 @@ impl OpenElement {
     }
 
     /// Takes one more item.
-    pub fn push(&mut self, item: Item) -> Result<(), AllocError>
+    pub fn push(&mut self, alloc: Global, item: Item) -> Result<(), AllocError>
         ensures { OnOk result (self.new ≡ with_item item self.old) }
     {
-        self.items.push(item)?;
-        Ok(())
+        append(alloc, &mut self.items, item)
     }
 
     /// The whole element.
-    pub fn close(self, alloc: Global) -> Element
+    pub fn close(self) -> Element
         ensures { result ≡ element_of_open self }
     {
-        let OpenElement { name, items } = self;
+        let OpenElement {
+            name,
+            attributes,
+            items,
+        } = self;
         Element {
             name,
-            attributes: Sequence::new(alloc),
+            attributes,
             items: Items::from_vec(items),
         }
     }

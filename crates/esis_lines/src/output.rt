@@ -49,7 +49,7 @@ fn write_item<K: Sink>(item: &Item, sink: &mut K) -> Result<(), Failed>
 {
     match item {
         Item::Text(bytes) => write_line(b'-', bytes.as_slice(), sink),
-        Item::Child(element) => write_element(element, sink),
+        Item::Child(element) => write_element(element.get(), sink),
     }
 }
 

@@ -1,23 +1,32 @@
 //! A machine of one step a line. It stands inside the open elements, or after the end of the root.
 
-ghost use Rattle.std.specs.Prelude.{◌≡◌, [], IfOk, reverse};
-ghost use Rattle.std.specs.Result.{result_ok};
-ghost use Rattle.esis_lines.specs.Machine.{State, document_of_state, state_after_end, state_after_start, state_after_text, state_with_element, step};
-ghost use Rattle.esis_lines.specs.CodeValues.{line_or_none};
+ghost use Rattle.std.specs.Prelude.{◌≡◌, [], reverse};
+ghost use Rattle.esis_lines.specs.Answers.{ButForMemory};
+ghost use Rattle.esis_lines.specs.Machine.{State, document_of_state, state_after, state_after_attribute, state_after_closing, state_after_end, state_after_start, state_after_text, state_with_element};
+ghost use Rattle.esis_lines.specs.CodeValues.{line_value, placed, reached};
 
+use crate::appending::append;
+use crate::doc_fault::DocFault;
 use crate::line::Line;
 use crate::open_element::OpenElement;
-use acl_model::{Doc, Element, Item, Sequence};
-use std::alloc::{AllocError, Global};
+use acl_model::{Bytes, Doc, Element, Item, Sequence};
+use sqlite_items::Boxed;
+use std::alloc::Global;
 use std::marker::Model;
+use std::mem::replace;
 
 /// The most elements that may be open at once. All recursion over a document is bounded by it: of what is here, only
 /// dropping a document recurses.
 const MOST_OPEN: usize = 255;
 
+/// The most attributes of an element.
+const MOST_ATTRIBUTES: usize = 65_535;
+
 /// What was read so far.
 #[derive(Drop)]
 pub struct Reader {
+    /// The attributes that wait for the next start. After the end of the root there are none.
+    waiting: Vec<Bytes>,
     /// The open elements, the innermost last.
     opened: Vec<OpenElement>,
     /// The whole root, once it has ended. From then on nothing is open.
@@ -34,104 +43,150 @@ impl Model for Reader {
 
     ghost coded = { Prim.hlevel (codes, item.the_row.coded) };
 
-    ghost view = { λ r. state_of r.opened.items r.root };
+    ghost view = { λ r. state_of r.waiting.items r.opened.items r.root };
 }
 
 impl Reader {
     /// Before the first line.
     pub fn new(alloc: Global) -> Reader
-        ensures { result ≡ State.Inside [] }
+        ensures { result ≡ State.Inside [] [] }
     {
         Reader {
+            waiting: Vec::new(alloc),
             opened: Vec::new(alloc),
             root: None,
         }
     }
 
-    /// An element starts. None where the root has ended or 255 elements are open.
-    fn start(self, alloc: Global, name: &[u8]) -> Result<Option<Reader>, AllocError>
-        ensures { IfOk result (λ next. next ≡ state_after_start name.now self) }
+    /// An element starts with the attributes that wait.
+    fn start(&mut self, alloc: Global, number: u32, name: &[u8]) -> Result<(), DocFault>
+        ensures { ButForMemory (reached result self.new)
+            (state_after_start number name.now self.old) }
     {
-        let Reader { mut opened, root } = self;
-        if root.is_some() || opened.len() >= MOST_OPEN {
-            return Ok(None);
+        if self.root.is_some() {
+            return Err(DocFault::SecondRoot { line: number });
         }
-        opened.push(OpenElement::new(alloc, name)?)?;
-        Ok(Some(Reader { opened, root }))
+        if self.opened.len() >= MOST_OPEN {
+            return Err(DocFault::TooDeep { line: number });
+        }
+        let attributes = replace(&mut self.waiting, Vec::new(alloc));
+        self.opened
+            .push(OpenElement::new(alloc, name, attributes)?)?;
+        Ok(())
     }
 
-    /// The innermost open element ends. None where nothing is open or its name is another.
-    fn end(self, alloc: Global, name: &[u8]) -> Result<Option<Reader>, AllocError>
-        ensures { IfOk result (λ next. next ≡ state_after_end name.now self) }
+    /// The innermost open element ends.
+    fn end(&mut self, alloc: Global, number: u32, name: &[u8]) -> Result<(), DocFault>
+        ensures { ButForMemory (reached result self.new)
+            (state_after_end number name.now self.old) }
     {
-        let Reader { mut opened, root } = self;
-        if root.is_some() {
-            return Ok(None);
+        if !self.waiting.is_empty() || self.root.is_some() {
+            return Err(DocFault::Unbalanced { line: number });
         }
-        let Some(innermost) = opened.pop() else {
-            return Ok(None);
+        let Some(innermost) = self.opened.pop() else {
+            return Err(DocFault::Unbalanced { line: number });
         };
         if innermost.name() != name {
-            return Ok(None);
+            return Err(DocFault::Unbalanced { line: number });
         }
-        place(innermost.close(alloc), opened)
+        self.root = place(alloc, innermost.close(), &mut self.opened)?;
+        Ok(())
     }
 
-    /// A text stands here. None where nothing is open.
-    fn say(self, alloc: Global, bytes: &[u8]) -> Result<Option<Reader>, AllocError>
-        ensures { IfOk result (λ next. next ≡ state_after_text bytes.now self) }
+    /// A text stands here.
+    fn say(&mut self, alloc: Global, number: u32, bytes: &[u8]) -> Result<(), DocFault>
+        ensures { ButForMemory (reached result self.new)
+            (state_after_text number bytes.now self.old) }
     {
-        let Reader { mut opened, root } = self;
-        if root.is_some() {
-            return Ok(None);
+        if self.root.is_some() || !self.waiting.is_empty() {
+            return Err(DocFault::Unbalanced { line: number });
         }
-        let Some(mut innermost) = opened.pop() else {
-            return Ok(None);
+        let Some(mut innermost) = self.opened.pop() else {
+            return Err(DocFault::Unbalanced { line: number });
         };
-        innermost.push(Item::Text(Sequence::from_slice(alloc, bytes)?))?;
-        opened.push(innermost)?;
-        Ok(Some(Reader { opened, root }))
+        innermost.push(alloc, Item::Text(Sequence::from_slice(alloc, bytes)?))?;
+        self.opened.push(innermost)?;
+        Ok(())
     }
 
-    /// Takes a line. None where it is refused.
-    pub fn take(self, alloc: Global, line: Option<Line>) -> Result<Option<Reader>, AllocError>
-        ensures { IfOk result (λ next. next ≡ step self (line_or_none line.entry)) }
+    /// An attribute waits for the next start.
+    fn wait(&mut self, alloc: Global, number: u32, raw: &[u8]) -> Result<(), DocFault>
+        ensures { ButForMemory (reached result self.new)
+            (state_after_attribute number raw.now self.old) }
+    {
+        if self.root.is_some() {
+            return Err(DocFault::SecondRoot { line: number });
+        }
+        if self.waiting.len() >= MOST_ATTRIBUTES {
+            return Err(DocFault::TooManyAttributes { line: number });
+        }
+        append(alloc, &mut self.waiting, Sequence::from_slice(alloc, raw)?)?;
+        Ok(())
+    }
+
+    /// All lines were written.
+    fn close(&self, number: u32) -> Result<(), DocFault>
+        ensures { ButForMemory (reached result self.now) (state_after_closing number self.now) }
+    {
+        if self.root.is_some() {
+            return Ok(());
+        }
+        if !self.waiting.is_empty() {
+            return Err(DocFault::Unbalanced { line: number });
+        }
+        if !self.opened.is_empty() {
+            return Err(DocFault::Unbalanced { line: number });
+        }
+        Ok(())
+    }
+
+    /// Takes what the line of this number says, or refuses it. Behind a fault the reader is in no state that is told.
+    pub fn take(&mut self, alloc: Global, number: u32, line: Line) -> Result<(), DocFault>
+        ensures { ButForMemory (reached result self.new)
+            (state_after number self.old (line_value line.entry)) }
     {
         match line {
-            Some(Line::Start(name)) => self.start(alloc, name),
-            Some(Line::End(name)) => self.end(alloc, name),
-            Some(Line::Text(bytes)) => self.say(alloc, bytes),
-            None => Ok(None),
+            Line::Start(name) => self.start(alloc, number, name),
+            Line::End(name) => self.end(alloc, number, name),
+            Line::Text(bytes) => self.say(alloc, number, bytes),
+            Line::Attribute(raw) => self.wait(alloc, number, raw),
+            Line::PassedBy => Ok(()),
+            Line::Closing => self.close(number),
         }
     }
 
-    /// The document, where its root has ended.
-    pub fn finish(self) -> Option<Doc>
-        ensures { result ≡ result_ok (document_of_state self) }
+    /// The document, where its root has ended. The number is that of the line that would follow the last.
+    pub fn finish(self, number: u32) -> Result<Doc, DocFault>
+        ensures { result ≡ document_of_state number self }
     {
-        let Reader { opened: _, root } = self;
-        match root {
-            Some(root) => Some(Doc { root }),
-            None => None,
+        let Reader {
+            waiting,
+            opened,
+            root,
+        } = self;
+        if let Some(root) = root {
+            return Ok(Doc { root });
         }
+        if !waiting.is_empty() || !opened.is_empty() {
+            return Err(DocFault::Unbalanced { line: number });
+        }
+        Err(DocFault::NoRoot)
     }
 }
 
-/// A whole element stands in the innermost of those that are open around it. With none around it is the root.
-fn place(element: Element, mut around: Vec<OpenElement>) -> Result<Option<Reader>, AllocError>
-    ensures { IfOk result (λ next.
-        next ≡ Some (state_with_element element (reverse around.items))) }
+/// A whole element stands in the innermost of those that are open around it. With none around it is the root, and is handed back.
+fn place(
+    alloc: Global,
+    element: Element,
+    around: &mut Vec<OpenElement>,
+) -> Result<Option<Element>, DocFault>
+    ensures { ButForMemory (placed result around.new.items)
+        (Ok (state_with_element element (reverse around.old.items))) }
 {
     let Some(mut innermost) = around.pop() else {
-        return Ok(Some(Reader {
-            opened: around,
-            root: Some(element),
-        }));
+        return Ok(Some(element));
     };
-    innermost.push(Item::Child(element))?;
+    innermost.push(alloc, Item::Child(Boxed::new(alloc, element)?))?;
     around.push(innermost)?;
-    Ok(Some(Reader {
-        opened: around,
-        root: None,
-    }))
+    Ok(None)
 }

@@ -1,7 +1,8 @@
 //! A document from a source: the source is read to its end, and then its bytes.
 
-ghost use Rattle.std.specs.Prelude.{◌≡◌, ◌+◌, is_some, IfSome, OnOk};
+ghost use Rattle.std.specs.Prelude.{◌≡◌, ◌+◌, true, is_some, IfSome, IfOk, OnOk};
 ghost use Rattle.std.specs.Io.KnownBytes.{IsAtEnd};
+ghost use Rattle.acl_model.specs.Document.{is_document};
 ghost use Rattle.acl_outside.specs.Outside.{CountsWhere, NotFallen, TakesAtMost};
 ghost use Rattle.esis_lines.specs.Answers.{IfAboutBytes, IsTrueAnswer, TakesUpTo, answer_within, is_source_fault, most_document_bytes};
 
@@ -15,13 +16,14 @@ use std::alloc::Global;
 /// The most bytes that the text of a document may have as it stands in a source.
 pub const MOST_DOCUMENT_BYTES: u32 = 33_554_432;
 
-/// Reads a source to its end as a document without attributes. Where it gives more than `MOST_DOCUMENT_BYTES`, one byte
-/// more is taken.
+/// Reads a source to its end as a document. Where it gives more than `MOST_DOCUMENT_BYTES`, one byte
+/// more is taken. What is answered is a document also where the source doesn't tell its bytes.
 pub fn read_doc<Q: Source>(alloc: Global, source: &mut Q) -> Result<Doc, DocFault>
     ensures exact { IfSome (Q.left source.old) (λ bytes.
         IfAboutBytes result (result ≡ answer_within most_document_bytes bytes)) }
     ensures document { IfSome (Q.left source.old) (λ bytes.
         IsTrueAnswer result most_document_bytes bytes) }
+    ensures form { IfOk result (λ d. is_document d ≡ true) }
     ensures end { OnOk result (IsAtEnd (Q.left source.new)) }
     ensures taken { IfAboutBytes result
         (TakesUpTo (most_document_bytes + 1) (Q.left source.old) (Q.left source.new)) }
@@ -36,7 +38,7 @@ pub fn read_doc<Q: Source>(alloc: Global, source: &mut Q) -> Result<Doc, DocFaul
 {
     match read_all(alloc, source, MOST_DOCUMENT_BYTES) {
         Ok(bytes) => document_of(alloc, bytes.as_slice()),
-        Err(ReadAllFault::TooLong { limit: _ }) => Err(DocFault::BadLine { line: 0 }),
+        Err(ReadAllFault::TooLong { limit }) => Err(DocFault::InputTooLong { limit }),
         Err(ReadAllFault::Failed) => Err(DocFault::SourceFault),
         Err(ReadAllFault::NoMemory) => Err(DocFault::NoMemory),
     }

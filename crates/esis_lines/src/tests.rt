@@ -4,7 +4,7 @@
 use super::*;
 use acl_model::{Bytes, Doc, Element, Item, Sequence};
 use acl_outside::{Failed, MemSink, MemSource};
-use sqlite_items::Items;
+use sqlite_items::{Boxed, Items};
 use std::alloc::{AllocError, Global};
 use std::test::Fail;
 
@@ -84,7 +84,9 @@ fn sample(alloc: Global) -> Result<Doc, AllocError> {
     let text = Item::Text(Bytes::from_slice(alloc, b"1")?);
     let filled = element(alloc, b"b", Vec::from_array(alloc, [text])?)?;
     let empty = element(alloc, b"c", Vec::new(alloc))?;
-    let items = Vec::from_array(alloc, [Item::Child(filled), Item::Child(empty)])?;
+    let filled = Item::Child(Boxed::new(alloc, filled)?);
+    let empty = Item::Child(Boxed::new(alloc, empty)?);
+    let items = Vec::from_array(alloc, [filled, empty])?;
     let mut root = element(alloc, b"a", items)?;
     let attribute = Bytes::from_slice(alloc, b"Id CDATA x")?;
     root.attributes = Sequence::from_vec(Vec::from_array(alloc, [attribute])?);

@@ -1,10 +1,14 @@
-use Rattle.std.proofs.Common.{◌≡◌, [], length}
-use Rattle.esis_lines.specs.Machine.{State}
-use Rattle.esis_lines.proofs.Running.{answer}
+use Rattle.std.proofs.Common.{◌≡◌, ◌+◌, ◌≤◌, false, [], length}
+use Rattle.acl_model.specs.Lines.{lines}
+use Rattle.esis_lines.specs.Machine.{State, run}
 use Rattle.esis_lines.proofs.document_of.document_of.Given as goal
 
-abbrev pub invariant-loop-line : goal.invariant-loop-line
-invariant-loop-line l = answer l.rest l.reader ≡ answer l.bytes (State.Inside [])
+-- What the lines that are left lead to is what all lines mean. So many were taken that their number is not past that of the bytes.
+abbrev pub invariant-lines : goal.invariant-lines
+invariant-lines l = record {
+  means : run l.number l.closed (lines l.rest) l.reader ≡ run 1 false (lines l.bytes) (State.Inside [] []);
+  in_range : l.number + length l.rest ≤ length l.bytes + 1;
+}
 
-abbrev pub decreases-loop-line : goal.decreases-loop-line
-decreases-loop-line l = length l.rest
+abbrev pub decreases-lines : goal.decreases-lines
+decreases-lines l = length l.rest

@@ -1,4 +1,4 @@
-use Rattle.esis_lines.proofs.Passing.{read_document}
+use Rattle.esis_lines.proofs.Dropping.{read_document}
 use Rattle.esis_lines.proofs.laws.reads_every_document.Goals as goal
 
 pub returns : goal.returns
