@@ -1,94 +1,213 @@
--- How the ls of the rules are read one by one, and what a reader may answer.
-use Rattle.std.proofs.Common.{◌≡◌, ℕ, ◌+◌, ◌<◌, ◌≤◌, List, [], ◌∷◌, ◌++◌, length, nat_le, Bool, true, false, cond, Result, Ok, Err, ok_or, refl, ap, sym, length-append, subst, ◌∙◌, arith}
-use Rattle.acl_model.specs.declared.rule.Rule.{Rule}
-use Rattle.licence.specs.declared.body_fault.BodyFault.{BodyFault}
-use Rattle.licence.specs.declared.body_fault.BodyFault.TheVariants.{Refused, NoMemory}
-use Rattle.licence.specs.declared.refusals.Refusal.{Refusal}
-use Rattle.licence.specs.declared.refusals.Refusal.TheVariants.{BadLine}
+-- A body as a whole: what it shows that it was read or refused, and how it is read from what it says.
+use Rattle.std.proofs.Common.{◌≡◌, ℕ, ◌+◌, inl, inr, List, [], ◌∷◌, ◌++◌, map, length, cond, Some, None, Result, Ok, Err, IsTrue, codes, refl, ap, sym, subst, ◌∙◌, arith}
+use Rattle.std.proofs.lemmas.Option.{option_and_then_some, cond_some}
+use Rattle.std.proofs.lemmas.List.{length-map}
 use Rattle.acl_model.specs.Lines.{lines}
-use Rattle.licence.specs.BodyText.{Lines}
-use Rattle.licence.specs.Body.{◌>>=◌, rule_line, rule_of_parts, next_rule, rule_too_many, is_end, rules_at_end, rules_from, line_of_form, first_line, root_line, user_line, read_body_of, Reads}
+use Rattle.acl_model.specs.declared.rule.Rule.{Rule}
+use Rattle.licence.specs.Forms.{Lines, HasDigits, ◌>>=◌, text_behind, line_of_form}
+use Rattle.licence.specs.BodyText.{title, root_word, user_text, last_line, is_user, are_within_limits, rule_of_line, Begins, Says}
+use Rattle.licence.specs.Refusals.{IsTitle, IsRootLine, IsUserLine, IsRefusedBehind, IsRefused}
+use Rattle.licence.specs.Refusals.IsRefused.{NoTitle, NoRoot, NoUser, Behind}
+use Rattle.licence.specs.Body.{title_line, root_line, user_line, rules_from, read_body_from}
+use Rattle.licence.specs.declared.fault.LicenceFault.{LicenceFault}
+use Rattle.licence.specs.declared.fault.LicenceFault.TheVariants.{BadLicence}
+use Rattle.licence.specs.declared.terms.Licence.{Licence}
+use Rattle.licence.proofs.FormLaws.{same_value, not_both, bind-ok, bind-err, pointwise-same, text_behind-some, bytes_behind-some, bytes_behind-digits, line_of_form-ok, line_of_form-err, line_of_form-none}
+use Rattle.licence.proofs.RuleRuns.{Comes, rules_from-comes, rules_from-written, rules_from-whole, rules_from-cause}
+use Rattle.licence.proofs.Steps.{read_body_from-title, read_body_from-root, read_body_from-user, read_body_from-rules}
 
--- ---- what a reader may answer
+-- ---- the first three lines, by their forms
 
--- an answer to the same
-pub Reads-along : {A : Type 0} (wanted other : Result A Refusal) (answer : Result A BodyFault) → wanted ≡ other → Reads other answer → Reads wanted answer
-Reads-along wanted other answer same reads = let P : Result _ Refusal → Type 0 = λ w. Reads w answer in subst P (sym same) reads
+title_shows : (line : List ℕ) (u : Unit {0}) → title_line line ≡ Some u → IsTitle line
+title_shows line u h = pointwise-same line title (cond_some _ tt u h).0
 
--- an answer without a value, where one refusal is another's
-pub Reads-refused : {A B : Type 0} (first : Result A Refusal) (whole : Result B Refusal) (fault : BodyFault)
-    → ((refusal : Refusal) → first ≡ Err refusal → whole ≡ Err refusal) → Reads first (Err fault) → Reads whole (Err fault)
-Reads-refused first whole (Refused refusal) passes reads = passes refusal reads
-Reads-refused first whole NoMemory passes reads = tt
+title_takes : (line : List ℕ) → IsTitle line → (u : Unit {0}) × (title_line line ≡ Some u)
+title_takes line is = (tt, ap title_line is)
 
--- ---- the ls of the rules
+root_behind : (rest : List ℕ) → text_behind root_word (root_word ++ rest) ≡ Some rest
+root_behind rest = refl
 
--- `end` is missing
-pub rules_from-none : (rules : List Rule) (ls : Lines) → ls ≡ [] → rules_from rules ls ≡ Err (BadLine (length rules + 4))
-unfolding rules_from
-rules_from-none rules ls none = ap (λ (ls : Lines). rules_from rules ls) none
+root_shows : (line root : List ℕ) → root_line line ≡ Some root → IsRootLine line
+root_shows line root h = (root, bytes_behind-some root_word 32 line root h)
 
--- the line is `end`
-pub rules_from-end : (rules : List Rule) (ls rest : Lines) (line : List ℕ) → ls ≡ line ∷ rest → is_end line ≡ true
-    → rules_from rules ls ≡ rules_at_end rules rest
-unfolding rules_from
-rules_from-end rules ls rest line first end = ap (λ (ls : Lines). rules_from rules ls) first ∙ rw end refl
+root_takes : (line : List ℕ) → IsRootLine line → (root : List ℕ) × (root_line line ≡ Some root)
+root_takes line is = (is.0, bytes_behind-digits root_word root_behind 32 line is.0 is.1)
 
--- The line is no next rule.
-pub rules_from-refused : (rules : List Rule) (ls rest : Lines) (line : List ℕ) → ls ≡ line ∷ rest → is_end line ≡ false
-    → (refusal : Refusal) → next_rule rules line ≡ Err refusal → rules_from rules ls ≡ Err refusal
-unfolding rules_from
-rules_from-refused rules ls rest line first other refusal refused =
-    ap (λ (ls : Lines). rules_from rules ls) first ∙ rw (other, refused) refl
+user_shows : (line user : List ℕ) → user_line line ≡ Some user → (line ≡ user_text user) × IsTrue (is_user user)
+user_shows line user h =
+    option_and_then_some (λ u. cond (is_user u) (Some u) None) (text_behind (codes "user ") line) user h
+    (λ u behind good.
+    let found = cond_some (is_user u) u user good in
+    (text_behind-some (codes "user ") line u behind ∙ ap (λ (v : List ℕ). user_text v) found.1, ap is_user (sym found.1) ∙ found.0))
 
--- The line is the next rule.
-pub rules_from-next : (rules : List Rule) (rule : Rule) (ls rest : Lines) (line : List ℕ) → ls ≡ line ∷ rest → is_end line ≡ false
-    → next_rule rules line ≡ Ok rule → rules_from rules ls ≡ rules_from (rules ++ rule ∷ []) rest
-unfolding rules_from
-rules_from-next rules rule ls rest line first other next =
-    ap (λ (ls : Lines). rules_from rules ls) first ∙ rw (other, next) refl
+user_reads : (line user : List ℕ) → line ≡ user_text user → IsTrue (is_user user) → user_line line ≡ Some user
+user_reads line user text good = ap user_line text ∙ rw good refl
 
-tested_false : {A : Type 0} (test : Bool) (refusal : Refusal) (other : Result A Refusal) (a : A) → cond test (Err refusal) other ≡ Ok a → test ≡ false
-tested_false true refusal other a is = cc
-tested_false false refusal other a is = refl
+user_takes : (line : List ℕ) → IsUserLine line → (user : List ℕ) × (user_line line ≡ Some user)
+user_takes line is = (is.0, user_reads line is.0 is.1 is.2)
 
--- There is room for a next rule behind at most 63.
-pub next_rule-room : (rules : List Rule) (line : List ℕ) (rule : Rule) → next_rule rules line ≡ Ok rule → length rules < 64
-next_rule-room rules line rule next =
-    let room : nat_le 64 (length rules) ≡ false =
-    tested_false (nat_le 64 (length rules)) (rule_too_many (length rules + 4) line)
-    (ok_or (rule_line line) (BadLine (length rules + 4)) >>= rule_of_parts (length rules + 4) rules) rule next in
-    grind arith
+-- ---- what an answer shows
 
--- With one more there are at most 64.
-pub one_more_rule : (rules more : List Rule) (rule : Rule) → more ≡ rules ++ rule ∷ [] → length rules < 64 → length more ≤ 64
-one_more_rule rules more rule added room = omega (arith, length-append {A = Rule}, ap length added)
+-- The first three lines were read, and the rules decide.
+record Head (n : ℕ) (bytes : List ℕ) (answer : Result Licence LicenceFault) : Type 0 where
+  root : List ℕ
+  user : List ℕ
+  line : List ℕ
+  rest : Lines
+  digits : HasDigits root_word 32 line root
+  good : IsTrue (is_user user)
+  text : lines bytes ≡ title ∷ line ∷ user_text user ∷ rest
+  rules : (rules_from user (n + 3) [] rest >>= λ rules. Ok (record { root = root; user = user; rules = rules })) ≡ answer
 
--- ---- the body, at each line that may be refused
+abbrev behind_user : ℕ → List ℕ → List ℕ × Lines → Result Licence LicenceFault
+behind_user n root user = rules_from user.0 (n + 3) [] user.1 >>= λ rules. Ok (record { root = root; user = user.0; rules = rules })
 
-pub read_body_of-first : (bytes : List ℕ) (refusal : Refusal) → line_of_form 1 first_line (lines bytes) ≡ Err refusal → read_body_of bytes ≡ Err refusal
-unfolding read_body_of
-read_body_of-first bytes refusal first = rw first refl
+abbrev behind_root : ℕ → List ℕ × Lines → Result Licence LicenceFault
+behind_root n root = line_of_form (BadLicence (n + 2)) user_line root.1 >>= behind_user n root.0
 
-pub read_body_of-root : (bytes : List ℕ) (more : Lines) (refusal : Refusal) → line_of_form 1 first_line (lines bytes) ≡ Ok (tt, more)
-    → line_of_form 2 root_line more ≡ Err refusal → read_body_of bytes ≡ Err refusal
-unfolding read_body_of
-read_body_of-root bytes more refusal first root = rw (first, root) refl
+abbrev behind_title : ℕ → Unit {0} × Lines → Result Licence LicenceFault
+behind_title n first = line_of_form (BadLicence (n + 1)) root_line first.1 >>= behind_root n
 
-pub read_body_of-user : (bytes : List ℕ) (more still_more : Lines) (root_bytes : List ℕ) (refusal : Refusal) → line_of_form 1 first_line (lines bytes) ≡ Ok (tt, more)
-    → line_of_form 2 root_line more ≡ Ok (root_bytes, still_more) → line_of_form 3 user_line still_more ≡ Err refusal → read_body_of bytes ≡ Err refusal
-unfolding read_body_of
-read_body_of-user bytes more still_more root_bytes refusal first root user = rw (first, root, user) refl
+in_parts : (n : ℕ) (bytes : List ℕ) → read_body_from n bytes ≡ (line_of_form (BadLicence n) title_line (lines bytes) >>= behind_title n)
+unfolding read_body_from
+in_parts n bytes = refl
 
-pub read_body_of-rules : (bytes : List ℕ) (more still_more rest : Lines) (root_bytes user_bytes : List ℕ) → line_of_form 1 first_line (lines bytes) ≡ Ok (tt, more)
-    → line_of_form 2 root_line more ≡ Ok (root_bytes, still_more) → line_of_form 3 user_line still_more ≡ Ok (user_bytes, rest)
-    → (refusal : Refusal) → rules_from [] rest ≡ Err refusal → read_body_of bytes ≡ Err refusal
-unfolding read_body_of
-read_body_of-rules bytes more still_more rest root_bytes user_bytes first root user refusal refused = rw (first, root, user, refused) refl
+head_of : (n : ℕ) (bytes : List ℕ) (first : Unit {0} × Lines) (root user : List ℕ × Lines) (answer : Result Licence LicenceFault)
+    → line_of_form (BadLicence n) title_line (lines bytes) ≡ Ok first → line_of_form (BadLicence (n + 1)) root_line first.1 ≡ Ok root
+    → line_of_form (BadLicence (n + 2)) user_line root.1 ≡ Ok user → behind_user n root.0 user ≡ answer → Head n bytes answer
+head_of n bytes first root user answer one two three four =
+    let a = line_of_form-ok (BadLicence n) title_line (lines bytes) first one in
+    let b = line_of_form-ok (BadLicence (n + 1)) root_line first.1 root two in
+    let d = line_of_form-ok (BadLicence (n + 2)) user_line root.1 user three in
+    let name = user_shows d.0 user.0 d.2 in
+    record {
+      root = root.0;
+      user = user.0;
+      line = b.0;
+      rest = user.1;
+      digits = bytes_behind-some root_word 32 b.0 root.0 b.2;
+      good = name.1;
+      text = a.1 ∙ ap (λ (l : List ℕ). l ∷ first.1) (title_shows a.0 first.0 a.2)
+          ∙ ap (λ (ls : Lines). title ∷ ls) (b.1 ∙ ap (λ (ls : Lines). b.0 ∷ ls) (d.1 ∙ ap (λ (l : List ℕ). l ∷ user.1) name.0));
+      rules = four;
+    }
 
-pub read_body_of-whole : (bytes : List ℕ) (more still_more rest : Lines) (root_bytes user_bytes : List ℕ) (rules : List Rule)
-    → line_of_form 1 first_line (lines bytes) ≡ Ok (tt, more) → line_of_form 2 root_line more ≡ Ok (root_bytes, still_more)
-    → line_of_form 3 user_line still_more ≡ Ok (user_bytes, rest) → rules_from [] rest ≡ Ok rules
-    → read_body_of bytes ≡ Ok (record { root = root_bytes; user = user_bytes; rules = rules })
-unfolding read_body_of
-read_body_of-whole bytes more still_more rest root_bytes user_bytes rules first root user read = rw (first, root, user, read) refl
+-- The lines begin a body, where the rules' lines are what the answer shows.
+begins_of : (n : ℕ) (bytes : List ℕ) (answer : Result Licence LicenceFault) (h : Head n bytes answer) (r : Result (List Rule) LicenceFault) (k : Comes h.user (n + 3) [] h.rest r)
+    → Begins (lines bytes) h.root h.user (map rule_of_line k.written) k.rest
+begins_of n bytes answer h r k =
+    let few = k.few in
+    record {
+      root_line = h.line;
+      digits = h.digits;
+      is_user = h.good;
+      written = k.written;
+      each = k.each;
+      all = refl;
+      few = omega (arith, few, length-map k.written rule_of_line);
+      text = h.text ∙ ap (λ (ls : Lines). title ∷ h.line ∷ user_text h.user ∷ ls) k.text;
+    }
+
+comes_of : (n : ℕ) (bytes : List ℕ) (answer : Result Licence LicenceFault) (h : Head n bytes answer) (r : Result (List Rule) LicenceFault) → rules_from h.user (n + 3) [] h.rest ≡ r
+    → Comes h.user (n + 3) [] h.rest r
+comes_of n bytes answer h r is = subst (Comes h.user (n + 3) [] h.rest) is (rules_from-comes h.rest h.user (n + 3) [] (omega arith))
+
+says_of : (n : ℕ) (bytes : List ℕ) (licence : Licence) → Head n bytes (Ok licence) → Says bytes licence
+says_of n bytes licence h =
+    let done = bind-ok (rules_from h.user (n + 3) [] h.rest) (λ rules. Ok (record { root = h.root; user = h.user; rules = rules })) licence h.rules in
+    let k = comes_of n bytes (Ok licence) h (Ok done.0) done.1 in
+    let b = begins_of n bytes (Ok licence) h (Ok done.0) k in
+    let ends : (k.rest ≡ last_line ∷ []) × IsTrue (are_within_limits (map rule_of_line k.written)) × (done.0 ≡ map rule_of_line k.written) = k.ends in
+    let same : ◌≡◌ {A = Licence} (record { root = h.root; user = h.user; rules = map rule_of_line k.written }) licence =
+    ap (λ (rs : List Rule). record { root = h.root; user = h.user; rules = rs }) (sym ends.2) ∙ same_value _ licence done.2 in
+    subst (Says bytes) same (record {
+      begins = subst (Begins (lines bytes) h.root h.user (map rule_of_line k.written)) ends.0 b;
+      limits = ends.1;
+    })
+
+-- What is read as a licence says this licence.
+pub read_body_from-says : (n : ℕ) (bytes : List ℕ) (licence : Licence) → read_body_from n bytes ≡ Ok licence → Says bytes licence
+read_body_from-says n bytes licence h =
+    let one = bind-ok (line_of_form (BadLicence n) title_line (lines bytes)) (behind_title n) licence (sym (in_parts n bytes) ∙ h) in
+    let two = bind-ok (line_of_form (BadLicence (n + 1)) root_line one.0.1) (behind_root n) licence one.2 in
+    let three = bind-ok (line_of_form (BadLicence (n + 2)) user_line two.0.1) (behind_user n two.0.0) licence two.2 in
+    says_of n bytes licence (head_of n bytes one.0 two.0 three.0 (Ok licence) one.1 two.1 three.1 three.2)
+
+refused_of : (n : ℕ) (bytes : List ℕ) (fault : LicenceFault) → Head n bytes (Err fault) → IsRefused n (lines bytes) fault
+refused_of n bytes fault h =
+    elim (bind-err (rules_from h.user (n + 3) [] h.rest) (λ rules. Ok (record { root = h.root; user = h.user; rules = rules })) fault h.rules) [
+      | inl refused ↦
+          let k = comes_of n bytes (Err fault) h (Err fault) refused in
+          let number : (n + 3) + length k.written ≡ n + 3 + length (map rule_of_line k.written) = omega (arith, length-map k.written rule_of_line) in
+          Behind h.root h.user (map rule_of_line k.written) k.rest (begins_of n bytes (Err fault) h (Err fault) k)
+          (subst (λ (m : ℕ). IsRefusedBehind h.user m (map rule_of_line k.written) k.rest fault) number k.ends)
+      | inr made ↦ absurd (not_both _ fault made.2)
+    ]
+
+-- What is refused is refused for its cause.
+pub read_body_from-refused : (n : ℕ) (bytes : List ℕ) (fault : LicenceFault) → read_body_from n bytes ≡ Err fault → IsRefused n (lines bytes) fault
+read_body_from-refused n bytes fault h =
+    elim (bind-err (line_of_form (BadLicence n) title_line (lines bytes)) (behind_title n) fault (sym (in_parts n bytes) ∙ h)) [
+      | inl none ↦ let found = line_of_form-err (BadLicence n) title_line IsTitle title_takes (lines bytes) fault none in NoTitle found.0 found.1
+      | inr one ↦ elim (bind-err (line_of_form (BadLicence (n + 1)) root_line one.0.1) (behind_root n) fault one.2) [
+        | inl none ↦
+            let found = line_of_form-err (BadLicence (n + 1)) root_line IsRootLine root_takes one.0.1 fault none in
+            let a = line_of_form-ok (BadLicence n) title_line (lines bytes) one.0 one.1 in
+            NoRoot one.0.1 found.0 (a.1 ∙ ap (λ (l : List ℕ). l ∷ one.0.1) (title_shows a.0 one.0.0 a.2)) found.1
+        | inr two ↦ elim (bind-err (line_of_form (BadLicence (n + 2)) user_line two.0.1) (behind_user n two.0.0) fault two.2) [
+          | inl none ↦
+              let found = line_of_form-err (BadLicence (n + 2)) user_line IsUserLine user_takes two.0.1 fault none in
+              let a = line_of_form-ok (BadLicence n) title_line (lines bytes) one.0 one.1 in
+              let b = line_of_form-ok (BadLicence (n + 1)) root_line one.0.1 two.0 two.1 in
+              NoUser b.0 two.0.1 found.0 (a.1 ∙ ap (λ (l : List ℕ). l ∷ one.0.1) (title_shows a.0 one.0.0 a.2) ∙ ap (λ (ls : Lines). title ∷ ls) b.1)
+              (root_shows b.0 two.0.0 b.2) found.1
+          | inr three ↦ refused_of n bytes fault (head_of n bytes one.0 two.0 three.0 (Err fault) one.1 two.1 three.1 three.2)
+        ]
+      ]
+    ]
+
+-- ---- how a body is read, from what it says
+
+title_read : (n : ℕ) (ls rest : Lines) → ls ≡ title ∷ rest → line_of_form (BadLicence n) title_line ls ≡ Ok (tt, rest)
+title_read n ls rest text = ap (λ (l : Lines). line_of_form (BadLicence n) title_line l) text
+
+root_read : (n : ℕ) (line : List ℕ) (rest : Lines) (root : List ℕ) → HasDigits root_word 32 line root → line_of_form (BadLicence n) root_line (line ∷ rest) ≡ Ok (root, rest)
+root_read n line rest root has = rw (bytes_behind-digits root_word root_behind 32 line root has) refl
+
+user_read : (n : ℕ) (user : List ℕ) (rest : Lines) → IsTrue (is_user user) → line_of_form (BadLicence n) user_line (user_text user ∷ rest) ≡ Ok (user, rest)
+user_read n user rest good = rw (user_reads (user_text user) user refl good) refl
+
+-- Where lines begin a body, the rest decides.
+read_body_from-begins : (n : ℕ) (bytes root user : List ℕ) (rules : List Rule) (rest : Lines) → Begins (lines bytes) root user rules rest
+    → read_body_from n bytes ≡ (rules_from user (n + 3 + length rules) rules rest >>= λ rs. Ok (record { root = root; user = user; rules = rs }))
+read_body_from-begins n bytes root user rules rest b =
+    let few = b.few in
+    let size = ap (length {A = Rule}) b.all in
+    let count : length b.written ≡ length rules = omega (arith, size, length-map b.written rule_of_line) in
+    let more : Result (List Rule) LicenceFault → Result Licence LicenceFault = λ r. r >>= λ rs. Ok (record { root = root; user = user; rules = rs }) in
+    read_body_from-rules n bytes _ _ _ root user (title_read n (lines bytes) _ b.text) (root_read (n + 1) b.root_line _ root b.digits) (user_read (n + 2) user _ b.is_user)
+    ∙ ap more (rules_from-written b.written user (n + 3) [] rest b.each (omega (arith, few, count))
+    ∙ ap (λ (m : ℕ). rules_from user (n + 3 + m) (map rule_of_line b.written) rest) count
+    ∙ ap (λ (rs : List Rule). rules_from user (n + 3 + length rules) rs rest) (sym b.all))
+
+-- What says a licence is read as this licence.
+pub read_body_from-said : (n : ℕ) (bytes : List ℕ) (licence : Licence) → Says bytes licence → read_body_from n bytes ≡ Ok licence
+read_body_from-said n bytes licence says =
+    let more : Result (List Rule) LicenceFault → Result Licence LicenceFault = λ r. r >>= λ rs. Ok (record { root = licence.root; user = licence.user; rules = rs }) in
+    read_body_from-begins n bytes licence.root licence.user licence.rules (last_line ∷ []) says.begins
+    ∙ ap more (rules_from-whole licence.user (n + 3 + length licence.rules) licence.rules says.limits)
+
+-- Where there is a cause, this is the answer.
+pub read_body_from-cause : (n : ℕ) (bytes : List ℕ) (fault : LicenceFault) → IsRefused n (lines bytes) fault → read_body_from n bytes ≡ Err fault
+read_body_from-cause n bytes fault (NoTitle is none) =
+    read_body_from-title n bytes fault (line_of_form-none (BadLicence n) title_line IsTitle title_shows (lines bytes) none ∙ ap Err (sym is))
+read_body_from-cause n bytes fault (NoRoot rest is text none) =
+    read_body_from-root n bytes rest fault (title_read n (lines bytes) rest text)
+    (line_of_form-none (BadLicence (n + 1)) root_line IsRootLine root_shows rest none ∙ ap Err (sym is))
+read_body_from-cause n bytes fault (NoUser line rest is text root none) =
+    read_body_from-user n bytes (line ∷ rest) rest root.0 fault (title_read n (lines bytes) (line ∷ rest) text) (root_read (n + 1) line rest root.0 root.1)
+    (line_of_form-none (BadLicence (n + 2)) user_line IsUserLine (λ l u h. let p = user_shows l u h in (u, p.0, p.1)) rest none ∙ ap Err (sym is))
+read_body_from-cause n bytes fault (Behind root user rules rest begins cause) =
+    let more : Result (List Rule) LicenceFault → Result Licence LicenceFault = λ r. r >>= λ rs. Ok (record { root = root; user = user; rules = rs }) in
+    read_body_from-begins n bytes root user rules rest begins
+    ∙ ap more (rules_from-cause user (n + 3 + length rules) rules rest fault begins.few cause)

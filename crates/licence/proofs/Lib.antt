@@ -1,6 +1,10 @@
+pub mod FormLaws
+pub mod Steps
+pub mod RuleLaws
+pub mod RuleRuns
 pub mod BodyLaws
-pub mod LimitLaws
-pub mod PathLaws
-pub mod SayingLaws
-pub mod WrittenBody
-pub mod WrittenParts
+pub mod Digests
+pub mod SealLaws
+pub mod KeyLaws
+pub mod Written
+pub mod NoOther

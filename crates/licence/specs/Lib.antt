@@ -1,3 +1,6 @@
-pub mod ChildPath
+pub mod Forms
 pub mod BodyText
+pub mod Refusals
 pub mod Body
+pub mod Sealed
+pub mod Keys

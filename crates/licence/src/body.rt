@@ -1,50 +1,33 @@
 //! Reads the body of a licence. Its lines are taken in order, and the first one that is refused decides.
 
-ghost use Rattle.std.specs.Prelude.{◌≡◌, ◌≤◌, ℕ, List, length, Ok, IfOk, IsTrue};
-ghost use Rattle.acl_model.specs.ChildSteps.{are_child_rules};
-ghost use Rattle.licence.specs.BodyText.{body_text, is_licence, step_count, Says};
-ghost use Rattle.licence.specs.Body.{read_body_of, Reads};
-ghost use Rattle.licence.specs.declared.terms.Licence.{Licence};
+ghost use Rattle.std.specs.Prelude.{◌≤◌, IfOk};
+ghost use Rattle.licence.specs.BodyText.{Says};
+ghost use Rattle.licence.specs.Body.{read_body_from, read_body_of, Reads};
 
-use crate::body_fault::BodyFault;
-use crate::head::{read_first_line, read_root_line, read_user_line};
+use crate::fault::LicenceFault;
+use crate::head::{read_root_line, read_title_line, read_user_line};
 use crate::rules::read_rules;
 use crate::terms::Licence;
 use acl_model::Bytes;
 use std::alloc::Global;
 
-/// Reads a body. The answer is the licence, or the first refusal.
-pub fn read_body(alloc: Global, bytes: &[u8]) -> Result<Licence, BodyFault>
-    ensures exact { Reads (read_body_of bytes.now) result }
-    ensures said { IfOk result (λ licence. Says bytes.now licence) }
-
-    // What a licence has that was read.
-    ensures child_steps { IfOk result (λ licence. IsTrue (are_child_rules licence.rules)) }
-    ensures few_rules { IfOk result (λ licence. length licence.rules ≤ 64) }
-    ensures few_steps { IfOk result (λ licence. step_count licence.rules ≤ 256) }
+/// The licence of a body whose first line has the number `first` in the bytes that are read.
+pub fn read_body_from(alloc: Global, first: u32, bytes: &[u8]) -> Result<Licence, LicenceFault>
+    requires { first ≤ 2 }
+    ensures { Reads (read_body_from first bytes.now) result }
 {
-    let rest = read_first_line(bytes)?;
-    let (root, rest) = read_root_line(rest)?;
-    let (user, rest) = read_user_line(rest)?;
-    let rules = read_rules(alloc, rest)?;
+    let rest = read_title_line(first, bytes)?;
+    let (root, rest) = read_root_line(first + 1, rest)?;
+    let (user, rest) = read_user_line(first + 2, rest)?;
+    let rules = read_rules(alloc, user, first + 3, rest)?;
     let user = Bytes::from_slice(alloc, user)?;
     Ok(Licence { root, user, rules })
 }
 
-/// What is read as a licence says this licence. This law does nothing when it runs.
-pub fn what_is_read_is_said()
-    ensures { (bytes : List ℕ) (licence : Licence)
-        → read_body_of bytes ≡ Ok licence → Says bytes licence }
-{}
-
-/// What says a licence is read as this licence. So no body says two licences. This law does nothing when it runs.
-pub fn what_is_said_is_read()
-    ensures { (bytes : List ℕ) (licence : Licence)
-        → Says bytes licence → read_body_of bytes ≡ Ok licence }
-{}
-
-/// A body that is written from a licence of the right form is read as this licence. This law does nothing when it runs.
-pub fn written_is_read()
-    ensures { (licence : Licence) → IsTrue (is_licence licence)
-        → read_body_of (body_text licence) ≡ Ok licence }
-{}
+/// Reads a body without a seal line. The answer is the licence, or the body's first fault; it is never `BadSeal`.
+pub fn read_body(alloc: Global, bytes: &[u8]) -> Result<Licence, LicenceFault>
+    ensures exact { Reads (read_body_of bytes.now) result }
+    ensures said { IfOk result (λ licence. Says bytes.now licence) }
+{
+    read_body_from(alloc, 1, bytes)
+}

@@ -1,18 +1,26 @@
-//! The body of a licence: which file it speaks of, whose it is, and the rules of access that it grants.
+//! Licences: which file one speaks of, whose it is, the rules of access that it grants, and its seal; and the keys.
 #![tactic(auto)]
 
 mod body;
-mod body_fault;
-mod child_path;
+mod fault;
+mod forms;
 mod head;
-mod refusals;
+mod keys;
+mod laws;
+mod limits;
 mod rule_line;
 mod rules;
+mod sealed;
 mod terms;
 
-pub use body::{read_body, what_is_read_is_said, what_is_said_is_read, written_is_read};
-pub use body_fault::BodyFault;
-pub use refusals::Refusal;
+pub use body::read_body;
+pub use fault::LicenceFault;
+pub use keys::{Keys, KeysError, read_keys};
+pub use laws::{
+    a_body_is_no_bad_seal, no_text_wants_memory, sealed_is_read, what_has_a_cause_is_refused,
+    what_is_read_is_said, what_is_refused_has_a_cause, what_is_said_is_read, written_is_read,
+};
+pub use sealed::{read_licence, seal_text};
 pub use terms::Licence;
 
 #[cfg(test)]

@@ -1,124 +1,127 @@
 //! Reads the rules of a body, to its end. Its lines are taken in order, and the first one that is refused decides.
 
-ghost use Rattle.std.specs.Prelude.{◌≡◌, ◌≤◌, [], length, nat_le};
-ghost use Rattle.std.specs.List.{list_any};
+ghost use Rattle.std.specs.Prelude.{◌≡◌, ◌≤◌, ◌+◌, ◌^◌, ◌<◌, [], length};
 ghost use Rattle.acl_model.specs.Lines.{lines};
-ghost use Rattle.licence.specs.BodyText.{has_id, step_count};
+ghost use Rattle.licence.specs.BodyText.{is_known_id};
 ghost use Rattle.licence.specs.Body.{rule_of_parts, rule_too_many, next_rule, is_end, rules_at_end, rules_from, Reads};
 
-use crate::body_fault::BodyFault;
-use crate::child_path::read_child_path;
-use crate::refusals::Refusal;
+use crate::fault::LicenceFault;
+use crate::limits::are_within_limits;
 use crate::rule_line::{RuleLine, read_rule_line};
 use acl_model::{Bytes, Rule, Sequence, next_line};
 use std::alloc::Global;
+use xpath_rules::{PathError, read_path};
 
-fn has_an_id(rules: &[Rule], id: &[u8]) -> bool
-    ensures { result ≡ list_any (has_id id.now) rules.now }
+const MOST_RULES: usize = 64;
+
+fn is_known_id(id: &[u8], rules: &[Rule]) -> bool
+    ensures { result ≡ is_known_id id.now rules.now }
 {
     rules.iter().any(|rule| rule.id.as_slice() == id)
 }
 
-fn rule_too_many_at(line: u32, bytes: &[u8]) -> Refusal
+fn rule_too_many(line: u32, bytes: &[u8]) -> LicenceFault
     ensures { result ≡ rule_too_many line bytes.now }
 {
     match bytes {
-        [b'+' | b'-', ..] => Refusal::TooManyRules,
-        _ => Refusal::BadLine { line },
+        [b'+' | b'-', ..] => LicenceFault::TooManyRules,
+        _ => LicenceFault::BadLicence { line },
     }
 }
 
-fn rule_of(
+/// The rule of these parts. Its id is looked up before its path is read.
+fn rule_of_parts(
     alloc: Global,
+    user: &[u8],
     line: u32,
     earlier: &[Rule],
     parts: RuleLine<'_>,
-) -> Result<Rule, BodyFault>
-    ensures { Reads (rule_of_parts line earlier.now (record {
+) -> Result<Rule, LicenceFault>
+    ensures { Reads (rule_of_parts user.now line earlier.now (record {
       sign = parts.entry.sign;
       id = parts.entry.id.now;
       path = parts.entry.path.now;
     })) result }
 {
-    if has_an_id(earlier, parts.id) {
-        return Err(BodyFault::Refused(Refusal::BadLine { line }));
+    if is_known_id(parts.id, earlier) {
+        return Err(LicenceFault::BadLicence { line });
     }
-    match read_child_path(alloc, parts.path)? {
-        Some(path) => Ok(Rule {
+    match read_path(alloc, parts.path, user) {
+        Ok(path) => Ok(Rule {
             id: Bytes::from_slice(alloc, parts.id)?,
             sign: parts.sign,
             path,
         }),
-        None => Err(BodyFault::Refused(Refusal::BadPath { line })),
+        Err(PathError::Fault { at }) => Err(LicenceFault::BadRule { line, at }),
+        Err(PathError::NoMemory) => Err(LicenceFault::NoMemory),
     }
 }
 
-// The next rule, of which the earlier ones are read.
-fn read_rule(alloc: Global, earlier: &[Rule], bytes: &[u8]) -> Result<Rule, BodyFault>
-    requires { length earlier.now ≤ 64 }
-    ensures { Reads (next_rule earlier.now bytes.now) result }
+/// The next rule, of which the earlier ones are read.
+fn next_rule(
+    alloc: Global,
+    user: &[u8],
+    line: u32,
+    earlier: &[Rule],
+    bytes: &[u8],
+) -> Result<Rule, LicenceFault>
+    ensures { Reads (next_rule user.now line earlier.now bytes.now) result }
 {
-    let line = earlier.len() as u32 + 4;
-    if earlier.len() >= 64 {
-        return Err(BodyFault::Refused(rule_too_many_at(line, bytes)));
+    if earlier.len() >= MOST_RULES {
+        return Err(rule_too_many(line, bytes));
     }
     match read_rule_line(bytes) {
-        Some(parts) => rule_of(alloc, line, earlier, parts),
-        None => Err(BodyFault::Refused(Refusal::BadLine { line })),
+        Some(parts) => rule_of_parts(alloc, user, line, earlier, parts),
+        None => Err(LicenceFault::BadLicence { line }),
     }
 }
 
-// The rules have together at most 256 steps.
-fn are_few_steps(rules: &[Rule]) -> bool
-    ensures { result ≡ nat_le (step_count rules.now) 256 }
-{
-    let mut left: usize = 256;
-    for rule in rules {
-        let steps = rule.path.steps.len();
-        if steps > left {
-            return false;
-        }
-        left -= steps;
-    }
-    true
-}
-
-// Behind `end` stands nothing.
-fn end_rules(rules: Sequence<Rule>, bytes: &[u8]) -> Result<Sequence<Rule>, BodyFault>
-    requires { length rules ≤ 64 }
-    ensures { Reads (rules_at_end rules (lines bytes.now)) result }
+/// Behind `end`, which has this line, stands nothing.
+fn rules_at_end(
+    line: u32,
+    rules: Sequence<Rule>,
+    bytes: &[u8],
+) -> Result<Sequence<Rule>, LicenceFault>
+    requires { line + 1 < 2 ^ 32 }
+    ensures { Reads (rules_at_end line rules (lines bytes.now)) result }
 {
     if next_line(bytes).is_some() {
-        let line = rules.len() as u32 + 5;
-        return Err(BodyFault::Refused(Refusal::BadLine { line }));
+        return Err(LicenceFault::BadLicence { line: line + 1 });
     }
-    if are_few_steps(rules.as_slice()) {
+    if are_within_limits(rules.as_slice()) {
         Ok(rules)
     } else {
-        Err(BodyFault::Refused(Refusal::TooManySteps))
+        Err(LicenceFault::TooManyStates)
     }
 }
 
-fn is_end_line(line: &[u8]) -> bool
+fn is_end(line: &[u8]) -> bool
     ensures { result ≡ is_end line.now }
 {
     line == b"end".as_slice()
 }
 
-/// All rules that stand in these lines, and the end behind them.
-pub fn read_rules(alloc: Global, bytes: &[u8]) -> Result<Sequence<Rule>, BodyFault>
-    ensures { Reads (rules_from [] (lines bytes.now)) result }
+/// All rules that stand in these lines, of which the first has the number `first`, and the end behind them.
+pub fn read_rules(
+    alloc: Global,
+    user: &[u8],
+    first: u32,
+    bytes: &[u8],
+) -> Result<Sequence<Rule>, LicenceFault>
+    requires { first ≤ 5 }
+    ensures { Reads (rules_from user.now first [] (lines bytes.now)) result }
 {
     let mut rules: Vec<Rule> = Vec::new(alloc);
+    let mut line = first;
     let mut rest = bytes;
-    while let Some((line, behind)) = next_line(rest) {
-        if is_end_line(line) {
-            return end_rules(Sequence::from_vec(rules), behind);
+    while let Some((text, behind)) = next_line(rest) {
+        if is_end(text) {
+            return rules_at_end(line, Sequence::from_vec(rules), behind);
         }
-        let rule = read_rule(alloc, rules.as_slice(), line)?;
+        let rule = next_rule(alloc, user, line, rules.as_slice(), text)?;
         rules.push(rule)?;
+        line += 1;
         rest = behind;
     }
-    let line = rules.len() as u32 + 4;
-    Err(BodyFault::Refused(Refusal::BadLine { line }))
+    Err(LicenceFault::BadLicence { line })
 }

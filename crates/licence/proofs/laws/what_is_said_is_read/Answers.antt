@@ -1,0 +1,13 @@
+use Rattle.licence.proofs.BodyLaws.{read_body_from-said}
+use Rattle.licence.proofs.SealLaws.{read_licence_of-said}
+use Rattle.licence.proofs.KeyLaws.{read_keys_of-said}
+use Rattle.licence.proofs.laws.what_is_said_is_read.Goals as goal
+
+pub returns-clause-body : goal.returns-clause-body
+returns-clause-body c = read_body_from-said 1
+
+pub returns-clause-sealed : goal.returns-clause-sealed
+returns-clause-sealed c = read_licence_of-said
+
+pub returns-clause-keys : goal.returns-clause-keys
+returns-clause-keys c = read_keys_of-said

@@ -1,0 +1,102 @@
+-- Why the lines of a body are refused: always by the first line that may not follow those before it, and by the limits
+-- over all rules only where no line is refused. This project's own.
+use Rattle.std.specs.Prelude.{◌≡◌, ℕ, ◌+◌, ◌<◌, ◌⊎◌, nat_eq, Bool, false, ◌||◌, List, [], ◌∷◌, length, Err, IsTrue}
+use Rattle.acl_model.specs.Ascii.{plus, hyphen}
+use Rattle.acl_model.specs.declared.rule.Rule.{Rule}
+use Rattle.acl_model.specs.declared.rule.Sign.{Sign}
+use Rattle.xpath_rules.specs.Machine.{read_path_of}
+use Rattle.licence.specs.Forms.{Lines, HasDigits, NoneFirst}
+use Rattle.licence.specs.BodyText.{title, root_word, user_text, rule_text, last_line, is_user, is_id, is_known_id, most_rules, are_within_limits, Begins}
+use Rattle.licence.specs.declared.fault.LicenceFault.{LicenceFault}
+use Rattle.licence.specs.declared.fault.LicenceFault.TheVariants.{BadSeal, BadRule, BadLicence, TooManyRules, TooManyStates, NoMemory}
+
+-- ---- the form of each place
+
+-- `licence 1`
+abbrev pub IsTitle : List ℕ → Type 0
+IsTitle line = line ≡ title
+
+-- `root ` and the digits of 32 bytes
+abbrev pub IsRootLine : List ℕ → Type 0
+IsRootLine line = (root : List ℕ) × HasDigits root_word 32 line root
+
+-- `user ` and a user
+abbrev pub IsUserLine : List ℕ → Type 0
+IsUserLine line = (user : List ℕ) × (line ≡ user_text user) × IsTrue (is_user user)
+
+-- `end`
+abbrev pub IsLastLine : List ℕ → Type 0
+IsLastLine line = line ≡ last_line
+
+-- The line is a rule's, its path left aside: it has a sign, and an id that none of the rules before it has.
+pub record IsRuleBut (rules : List Rule) (line id path : List ℕ) : Type 0 where
+  pub sign : Sign
+  pub text : line ≡ rule_text sign id path
+  pub is_right : IsTrue (is_id id)
+  pub is_new : is_known_id id rules ≡ false
+
+-- Behind fewer than 64 rules the next one may stand, whatever its path.
+abbrev pub IsNextRule : List Rule → List ℕ → Type 0
+IsNextRule rules line = (length rules < most_rules) × ((id : List ℕ) × (path : List ℕ) × IsRuleBut rules line id path)
+
+-- The line begins as a rule's does, with '+' or '-'.
+abbrev pub begins_rule : List ℕ → Bool
+begins_rule [] = false
+begins_rule (b ∷ bytes) = nat_eq b plus || nat_eq b hyphen
+
+-- Behind 64 rules a line that begins so is one too many, whatever else it holds.
+abbrev pub IsOneTooMany : List Rule → List ℕ → Type 0
+IsOneTooMany rules line = (length rules ≡ most_rules) × IsTrue (begins_rule line)
+
+-- ---- behind the user and some rules
+
+-- The next line is missing, or it is none that may stand there.
+pub record IsNoLine (rules : List Rule) (rest : Lines) : Type 0 where
+  pub no_end : NoneFirst IsLastLine rest
+  pub no_rule : NoneFirst (IsNextRule rules) rest
+  pub no_more : NoneFirst (IsOneTooMany rules) rest
+
+-- A line stands behind `end`.
+abbrev pub HasLineBehindEnd : Lines → Type 0
+HasLineBehindEnd rest = (line : List ℕ) × (more : Lines) × (rest ≡ last_line ∷ line ∷ more)
+
+-- The next line is a rule's, and its path is refused at this place.
+pub record IsBadPath (user : List ℕ) (rules : List Rule) (rest : Lines) (at : ℕ) : Type 0 where
+  pub line : List ℕ
+  pub more : Lines
+  pub next : rest ≡ line ∷ more
+  pub room : length rules < most_rules
+  pub id : List ℕ
+  pub path : List ℕ
+  pub form : IsRuleBut rules line id path
+  pub refused : read_path_of path user ≡ Err at
+
+-- The next line is one rule too many.
+abbrev pub HasOneTooMany : List Rule → Lines → Type 0
+HasOneTooMany rules rest = (line : List ℕ) × (more : Lines) × (rest ≡ line ∷ more) × IsOneTooMany rules line
+
+-- All lines are right, and the rules are past a limit.
+abbrev pub ArePastLimits : List Rule → Lines → Type 0
+ArePastLimits rules rest = (rest ≡ last_line ∷ []) × (are_within_limits rules ≡ false)
+
+-- Behind these rules the lines are refused so, where the next line has the number n.
+abbrev pub IsRefusedBehind : List ℕ → ℕ → List Rule → Lines → LicenceFault → Type 0
+IsRefusedBehind user n rules rest (BadLicence line) =
+    ((line ≡ n) × IsNoLine rules rest) ⊎ ((line ≡ n + 1) × HasLineBehindEnd rest)
+IsRefusedBehind user n rules rest (BadRule line at) = (line ≡ n) × IsBadPath user rules rest at
+IsRefusedBehind user n rules rest TooManyRules = HasOneTooMany rules rest
+IsRefusedBehind user n rules rest TooManyStates = ArePastLimits rules rest
+IsRefusedBehind user n rules rest (BadSeal given made) = ⊥
+IsRefusedBehind user n rules rest NoMemory = ⊥
+
+-- ---- the body
+
+-- The lines of a body are refused so, where the first of them has the number n: by the line that should be `licence 1`,
+-- the one that should be the root's, the one that should be the user's, or behind the user and some rules.
+pub data IsRefused (n : ℕ) (ls : Lines) (fault : LicenceFault) : Type 0 where
+  NoTitle : fault ≡ BadLicence n → NoneFirst IsTitle ls → IsRefused n ls fault
+  NoRoot : (rest : Lines) → fault ≡ BadLicence (n + 1) → ls ≡ title ∷ rest → NoneFirst IsRootLine rest → IsRefused n ls fault
+  NoUser : (line : List ℕ) → (rest : Lines) → fault ≡ BadLicence (n + 2) → ls ≡ title ∷ line ∷ rest → IsRootLine line
+      → NoneFirst IsUserLine rest → IsRefused n ls fault
+  Behind : (root : List ℕ) → (user : List ℕ) → (rules : List Rule) → (rest : Lines) → Begins ls root user rules rest
+      → IsRefusedBehind user (n + 3 + length rules) rules rest fault → IsRefused n ls fault
