@@ -6,3 +6,8 @@ pub mod PredicateLaws
 pub mod MarkLaws
 pub mod ViewLaws
 pub mod SignLaws
+pub mod Heights
+pub mod LineLaws
+pub mod ToldLaws
+pub mod ShowLaws
+pub mod TurnLaws

@@ -26,12 +26,12 @@ abbrev mark_of : ChainSet → Chain → Mark
 mark_of set chain = record { here = set chain; above = leads_below Descendant set chain }
 
 -- the steps of a rule at a chain, where those before lead to the set
-abbrev steps_at : Sign → Option Step → ChainSet → List Step → Chain → List MarkedStep
+abbrev pub steps_at : Sign → Option Step → ChainSet → List Step → Chain → List MarkedStep
 steps_at sign step set [] chain = record { step = step; ends = Some sign; mark = mark_of set chain } ∷ []
 steps_at sign step set (s ∷ more) chain = record { step = step; ends = None; mark = mark_of set chain } ∷ steps_at sign (Some s) (chain_step s set) more chain
 
 -- a rule at a chain
-abbrev rule_at : Chain → Rule → List MarkedStep
+abbrev pub rule_at : Chain → Rule → List MarkedStep
 rule_at chain r = steps_at r.sign None is_virtual_root r.path.steps chain
 
 -- all rules at a chain
@@ -81,7 +81,7 @@ row_below_is rules e up = row_moves rules e up no_step
 -- ---- which rules end
 
 -- a rule whose sign passes ends at the step
-abbrev ends_as : (Sign → Bool) → MarkedStep → Bool
+abbrev pub ends_as : (Sign → Bool) → MarkedStep → Bool
 ends_as test m = option_map_or test m.ends false && m.mark.here
 
 rule_ends : (test : Sign → Bool) (sign : Sign) (step : Option Step) (set : ChainSet) (steps : List Step) (chain : Chain) (rest : List MarkedStep)
@@ -89,7 +89,7 @@ rule_ends : (test : Sign → Bool) (sign : Sign) (step : Option Step) (set : Cha
 rule_ends test sign step set [] chain rest = refl
 rule_ends test sign step set (s ∷ steps) chain rest = rule_ends test sign (Some s) (chain_step s set) steps chain rest
 
-row_ends : (test : Sign → Bool) (rules : List Rule) (chain : Chain) → list_any (ends_as test) (row_at rules chain) ≡ list_any (λ r. test r.sign && selects r.path chain) rules
+pub row_ends : (test : Sign → Bool) (rules : List Rule) (chain : Chain) → list_any (ends_as test) (row_at rules chain) ≡ list_any (λ r. test r.sign && selects r.path chain) rules
 unfolding selects
 row_ends test [] chain = refl
 row_ends test (r ∷ rules) chain =

@@ -58,19 +58,19 @@ children-Child : (e : Element) (rest : List Item) → children (Child e ∷ rest
 children-Child e rest = ap (λ o. cons_option o (children rest)) (element_of-Child e)
 
 -- the number of the element child behind these items
-abbrev next_number : List Item → ℕ
+abbrev pub next_number : List Item → ℕ
 next_number front = suc (length (children front))
 
-next-Text : (front : List Item) (bytes : List ℕ) → next_number (front ++ Text bytes ∷ []) ≡ next_number front
+pub next-Text : (front : List Item) (bytes : List ℕ) → next_number (front ++ Text bytes ∷ []) ≡ next_number front
 next-Text front bytes =
     ap (λ es. suc (length es)) (children-append front (Text bytes ∷ []) ∙ ap (λ es. children front ++ es) (children-Text bytes []) ∙ append-nil (children front))
 
-next-Child : (front : List Item) (e : Element) → next_number (front ++ Child e ∷ []) ≡ suc (next_number front)
+pub next-Child : (front : List Item) (e : Element) → next_number (front ++ Child e ∷ []) ≡ suc (next_number front)
 next-Child front e =
     ap (λ es. suc (length es)) (children-append front (Child e ∷ []) ∙ ap (λ es. children front ++ es) (children-Child e []))
     ∙ ap suc (length-snoc (children front) e)
 
-child-behind : (items front rest : List Item) (e : Element) → front ++ Child e ∷ rest ≡ items → child items (next_number front) ≡ Some e
+pub child-behind : (items front rest : List Item) (e : Element) → front ++ Child e ∷ rest ≡ items → child items (next_number front) ≡ Some e
 child-behind items front rest e is =
     ap (λ xs. slice_get (children xs) (length (children front))) (sym is)
     ∙ ap (λ es. slice_get es (length (children front))) (children-append front (Child e ∷ rest) ∙ ap (λ es. children front ++ es) (children-Child e rest))

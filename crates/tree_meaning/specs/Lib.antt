@@ -1,3 +1,5 @@
 pub mod Scans
 pub mod Met
 pub mod Marks
+pub mod Told
+pub mod Shows

@@ -1,15 +1,23 @@
-//! What rules mean on a whole document: its authorised view, made by one walk over the tree.
+//! What paths and rules mean on a whole document: what a path selects, where each sign comes from, and the authorised
+//! view. Each is found by one walk over the tree.
 #![tactic(auto)]
 
 mod comparison;
+mod explain;
+mod lines;
 mod marks;
 mod predicate;
 mod scan;
+mod shows;
 mod sign;
 mod view;
+mod view_writer;
 
+pub use explain::{Told, explain_tree, selected};
+pub use lines::write_explanation;
 pub use sign::sign_at;
 pub use view::view_tree;
+pub use view_writer::{WriteViewFault, write_view};
 
 #[cfg(test)]
 mod tests;

@@ -42,7 +42,11 @@ pub fn all_begun<'a>(alloc: Global, rules: &'a [Rule]) -> Result<Vec<Progress<'a
 
 /// Adds the steps of a rule, as they stand at the virtual root.
 #[tactic(auto, using(crate::proofs::Lists::list_steps))]
-fn begin<'a>(row: &mut Vec<Progress<'a>>, sign: Sign, steps: &'a [Step]) -> Result<(), AllocError>
+pub fn begin<'a>(
+    row: &mut Vec<Progress<'a>>,
+    sign: Sign,
+    steps: &'a [Step],
+) -> Result<(), AllocError>
     ensures { IfOk result (λ done. marked_steps row.new.items
         ≡ marked_steps row.old.items ++ begun_steps sign None true steps.now) }
 {
@@ -139,7 +143,7 @@ fn does_deny(progress: &Progress<'_>) -> bool
     }
 }
 
-fn does_any_select(row: &[Progress<'_>]) -> bool
+pub fn does_any_select(row: &[Progress<'_>]) -> bool
     ensures { result ≡ list_any (λ p. selects_here (marked_step p)) row.now }
 {
     row.iter().any(|progress| does_select(progress))

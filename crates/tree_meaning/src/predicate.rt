@@ -94,7 +94,7 @@ fn does_child_lead(pred: &Pred, step: &PredStep, way: &[PredStep], item: &Item) 
 {
     match item {
         Item::Text(_) => false,
-        Item::Child(element) => does_lead(pred, step, way, element),
+        Item::Child(element) => does_lead(pred, step, way, element.get()),
     }
 }
 
@@ -119,7 +119,8 @@ fn does_item_lead(pred: &Pred, step: &PredStep, way: &[PredStep], item: &Item) -
 {
     match item {
         Item::Text(_) => false,
-        Item::Child(element) => {
+        Item::Child(child) => {
+            let element = child.get();
             does_lead(pred, step, way, element) || does_any_below_lead(pred, step, way, element)
         }
     }

@@ -135,6 +135,6 @@ fn scan_item<'a>(begun: Scan<'a>, item: &Item) -> Scan<'a>
 {
     match item {
         Item::Text(bytes) => scan_bytes(begun, bytes.as_slice()),
-        Item::Child(element) => scan_element(begun, element),
+        Item::Child(element) => scan_element(begun, element.get()),
     }
 }

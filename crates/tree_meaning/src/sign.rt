@@ -17,7 +17,7 @@ fn element_in(item: &Item) -> Option<&Element>
 {
     match item {
         Item::Text(_) => None,
-        Item::Child(element) => Some(element),
+        Item::Child(element) => Some(element.get()),
     }
 }
 

@@ -7,7 +7,8 @@ use acl_model::{
     Axis, Bytes, Cmp, Doc, Element, Item, Name, Op, Operand, Path, Place, Pred, PredStep, Rule,
     Sequence, Sign, Step, Test,
 };
-use sqlite_items::Items;
+use acl_outside::MemSink;
+use sqlite_items::{Boxed, Items};
 use std::alloc::Global;
 use std::test::Fail;
 
@@ -55,7 +56,7 @@ fn document(alloc: Global, lines: &str) -> Result<Doc, Fail> {
                 };
                 let element = closed(inner);
                 match open.last_mut() {
-                    Some(around) => around.items.push(Item::Child(element))?,
+                    Some(around) => around.items.push(Item::Child(Boxed::new(alloc, element)?))?,
                     None => return Ok(Doc { root: element }),
                 }
             }
@@ -87,7 +88,7 @@ fn push_element(text: &mut Vec<u8>, element: &Element) -> Result<(), Fail> {
 fn push_item(text: &mut Vec<u8>, item: &Item) -> Result<(), Fail> {
     match item {
         Item::Text(bytes) => push_line(text, b'-', bytes.as_slice()),
-        Item::Child(element) => push_element(text, element),
+        Item::Child(element) => push_element(text, element.get()),
     }
 }
 
@@ -252,7 +253,7 @@ fn rule(alloc: Global, text: &str) -> Result<Rule, Fail> {
         None => (Sign::Deny, text.strip_prefix('-').unwrap_or("")),
     };
     Ok(Rule {
-        id: Bytes::new(alloc),
+        id: Bytes::from_slice(alloc, b"R")?,
         sign,
         path: path(alloc, rest)?,
     })
@@ -268,13 +269,24 @@ fn rules(alloc: Global, text: &str) -> Result<Vec<Rule>, Fail> {
     Ok(all)
 }
 
-/// The lines of the view of the document under the rules.
+/// The lines of the view of the document under the rules, as they are written; a view that is made as a tree has the same.
 fn view_lines(alloc: Global, text: &str, lines: &str) -> Result<Vec<u8>, Fail> {
     let rules = rules(alloc, text)?;
     let doc = document(alloc, lines)?;
+    let mut sink = MemSink::new(alloc, 1 << 16, Vec::new(alloc))?;
+    if write_view(alloc, &doc, rules.as_slice(), &mut sink).is_err() {
+        return Err("the view is not written".into());
+    }
     let mut made = Vec::new(alloc);
+    for byte in sink.written() {
+        made.push(if *byte == b'\n' { b';' } else { *byte })?;
+    }
+    let mut of_tree = Vec::new(alloc);
     if let Some(doc) = view_tree(alloc, &doc, rules.as_slice())? {
-        push_element(&mut made, &doc.root)?;
+        push_element(&mut of_tree, &doc.root)?;
+    }
+    if of_tree.as_slice() != made.as_slice() {
+        return Err("the view as a tree has other lines".into());
     }
     Ok(made)
 }
@@ -564,6 +576,78 @@ fn a_sign_is_that_of_the_nearest_selected_element(rt: HostRuntime) -> Result<(),
     ] {
         let place = Place::from_slice(alloc, place)?;
         assert_eq!(rt; sign_at(alloc, &doc, rules.as_slice(), &place)?, sign);
+    }
+    Ok(())
+}
+
+/// The places, each behind its numbers and a semicolon.
+fn written_places(alloc: Global, places: &[Place]) -> Result<String, Fail> {
+    let mut text = String::new(alloc);
+    for place in places {
+        for number in place.as_slice() {
+            text.push_str(format!(in alloc; "/{number}")?.as_str())?;
+        }
+        text.push_str(";")?;
+    }
+    Ok(text)
+}
+
+#[test]
+fn a_path_selects_places_in_document_order(rt: HostRuntime) -> Result<(), Fail> {
+    let alloc = rt.alloc();
+    let doc = document(alloc, "(a;(b;(c;)c;)b;-x;(c;(c;)c;)c;)a")?;
+    for (text, places) in [
+        ("/a", ";"),
+        ("//c", "/1/1;/2;/2/1;"),
+        ("//*[c]", ";/1;/2;"),
+        ("/c", ""),
+    ] {
+        let path = path(alloc, text)?;
+        let found = selected(alloc, &doc, &path)?;
+        let written = written_places(alloc, found.as_slice())?;
+        assert_eq!(rt; written.as_str(), places, "{text}");
+    }
+    Ok(())
+}
+
+/// The rules are named `R` here, each one.
+#[test]
+fn each_sign_is_told_with_its_rule_and_its_place(rt: HostRuntime) -> Result<(), Fail> {
+    let alloc = rt.alloc();
+    for (text, lines, told, written) in [
+        ("", "(a;(b;)b;)a", [None].as_slice(), "- closed /\n"),
+        (
+            "+//Folder;-//Admin;+//SSN",
+            HOSPITAL,
+            [None, Some(0), Some(1), Some(2)].as_slice(),
+            "- closed /\n+ R /1\n- R /1/1\n+ R /1/1/1\n",
+        ),
+        (
+            "+//b;-/a/b;-//b",
+            "(a;-x;(c;)c;(b;)b;)a",
+            [None, Some(1)].as_slice(),
+            "- closed /\n- R /2\n",
+        ),
+        (
+            "-/a/b;+/*;+//a",
+            "(a;(b;)b;)a",
+            [Some(1), Some(0)].as_slice(),
+            "+ R /\n- R /1\n",
+        ),
+    ] {
+        let rules = rules(alloc, text)?;
+        if rules.len() > 3 {
+            return Err("three rules at most".into());
+        }
+        let doc = document(alloc, lines)?;
+        let found = explain_tree(alloc, &doc, rules.as_slice())?;
+        assert_eq!(rt; found.len(), told.len(), "{text}");
+        for (one, rule) in found.iter().zip(told) {
+            assert_eq!(rt; one.rule, *rule, "{text}");
+        }
+        let mut sink = MemSink::new(alloc, 200, Vec::new(alloc))?;
+        assert!(rt; write_explanation(found.as_slice(), rules.as_slice(), &mut sink).is_ok());
+        assert_eq!(rt; sink.written(), written.as_bytes(), "{text}");
     }
     Ok(())
 }

@@ -9,7 +9,7 @@ ghost use Rattle.tree_meaning.specs.Marks.{marked_steps, view_from, item_view};
 use crate::marks::{Progress, all_begun, all_below, sign_of};
 use acl_model::{Bytes, Doc, Element, Item, Name, Rule, Sequence, Sign};
 use acl_outside::NoMemory;
-use sqlite_items::Items;
+use sqlite_items::{Boxed, Items};
 use std::alloc::{AllocError, Global};
 
 /// A text of an element, where the element is granted.
@@ -98,8 +98,8 @@ fn item_in_view(
 {
     match item {
         Item::Text(bytes) => text_in_view(alloc, own, bytes),
-        Item::Child(element) => match element_in_view(alloc, row, own, element)? {
-            Some(part) => Ok(Some(Item::Child(part))),
+        Item::Child(element) => match element_in_view(alloc, row, own, element.get())? {
+            Some(part) => Ok(Some(Item::Child(Boxed::new(alloc, part)?))),
             None => Ok(None),
         },
     }

@@ -1,0 +1,8 @@
+use Rattle.std.proofs.Common.{◌∙◌, ap}
+use Rattle.tree_meaning.specs.Marks.{marked_steps}
+use Rattle.tree_meaning.proofs.ToldLaws.{same_rules}
+use Rattle.tree_meaning.proofs.explain.tell_if_unselected.Goals as goal
+
+pub told_at-requires : goal.told_at-requires
+told_at-requires c =
+    same_rules c.args.root.now (marked_steps c.args.row.now) (marked_steps c.as_slice-then-not-is_selected.result.now) (ap marked_steps c.as_slice-then-not-is_selected.ensures.value ∙ c.in_ok-row.ensures) c.requires

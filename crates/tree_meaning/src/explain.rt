@@ -1,0 +1,237 @@
+//! Which elements rules select, and where the signs of a document come from, by one walk over it in document order.
+
+ghost use Rattle.std.specs.Prelude.{◌≡◌, ◌<◌, ◌≤◌, ◌+◌, ◌-◌, ◌^◌, [], ◌∷◌, ◌++◌, IfOk, map, length, if◌then◌else◌};
+ghost use Rattle.acl_model.specs.Places.{element_of};
+ghost use Rattle.acl_model.specs.Explain.{explain, selected};
+ghost use Rattle.tree_meaning.specs.Marks.{marked_step, marked_steps, row_below};
+ghost use Rattle.tree_meaning.specs.Told.{explanation_in, explanations_in, rules_in, is_last, selects_as, first_here, is_selected_here, told_here, told_if_selected, told_if_unselected, told_from, told_of_child, number_after};
+
+use crate::marks::{Progress, all_begun, all_below, begin, does_any_select, sign_of};
+use acl_model::{Doc, Element, Item, Path, Place, Rule, Sign};
+use acl_outside::NoMemory;
+use std::alloc::{AllocError, Global};
+
+/// What is told of an element: its sign, and where that comes from.
+#[derive(Debug, Drop)]
+pub struct Told {
+    pub place: Place,
+    pub sign: Sign,
+    /// The number, from 0, of the first rule of this sign that selects the element's decider; none, where no rule does.
+    pub rule: Option<u16>,
+}
+
+/// The number of the rule behind this step.
+fn number_behind(progress: &Progress<'_>, number: u32) -> u32
+    requires { number ≤ 65536 }
+    ensures { result ≡ (if is_last (marked_step progress.now) then number + 1 else number) }
+{
+    match progress.ends {
+        Some(_) => number + 1,
+        None => number,
+    }
+}
+
+/// Whether a rule of this sign ends here.
+fn does_select_as(progress: &Progress<'_>, own: Sign) -> bool
+    ensures { result ≡ selects_as own (marked_step progress.now) }
+{
+    match (progress.ends, own) {
+        (Some(Sign::Grant), Sign::Grant) => progress.mark.here,
+        (Some(Sign::Deny), Sign::Deny) => progress.mark.here,
+        (Some(Sign::Grant), Sign::Deny) => false,
+        (Some(Sign::Deny), Sign::Grant) => false,
+        (None, _) => false,
+    }
+}
+
+/// The number of the first rule of this sign that selects the element.
+fn first_rule(row: &[Progress<'_>], own: Sign) -> Option<u16>
+    requires { rules_in (marked_steps row.now) ≤ 65536 }
+    ensures { result ≡ first_here own (marked_steps row.now) 0 }
+{
+    let mut number: u32 = 0;
+    for progress in row {
+        if does_select_as(progress, own) {
+            return Some(number as u16);
+        }
+        number = number_behind(progress, number);
+    }
+    None
+}
+
+/// What is told of the element at this place, by the steps at it.
+#[tactic(auto, unfolding(crate::specs::Told::told_here))]
+fn told_at(alloc: Global, row: &[Progress<'_>], place: &[u64]) -> Result<Told, AllocError>
+    requires { rules_in (marked_steps row.now) ≤ 65536 }
+    ensures { IfOk result
+        (λ told. explanation_in told ≡ told_here (marked_steps row.now) place.now) }
+{
+    let sign = sign_of(row, Sign::Deny);
+    Ok(Told {
+        place: Place::from_slice(alloc, place)?,
+        sign,
+        rule: first_rule(row, sign),
+    })
+}
+
+#[tactic(auto, using(crate::proofs::Lists::any_map))]
+fn is_selected(row: &[Progress<'_>]) -> bool
+    ensures { result ≡ is_selected_here (marked_steps row.now) }
+{
+    does_any_select(row)
+}
+
+/// Tells of the element at this place, where a rule selects it, by the steps at it.
+fn tell_if_selected(
+    alloc: Global,
+    row: &[Progress<'_>],
+    place: &[u64],
+    told: &mut Vec<Told>,
+) -> Result<(), AllocError>
+    requires { rules_in (marked_steps row.now) ≤ 65536 }
+    ensures { IfOk result (λ done. explanations_in told.new.items
+        ≡ explanations_in told.old.items ++ told_if_selected (marked_steps row.now) place.now) }
+{
+    if is_selected(row) {
+        told.push(told_at(alloc, row, place)?)?;
+    }
+    Ok(())
+}
+
+/// Tells of the root, where no rule selects it, by the steps at the virtual root.
+fn tell_if_unselected(
+    alloc: Global,
+    row: &[Progress<'_>],
+    root: &Element,
+    told: &mut Vec<Told>,
+) -> Result<(), AllocError>
+    requires { rules_in (marked_steps row.now) ≤ 65536 }
+    ensures { IfOk result (λ done. explanations_in told.new.items
+        ≡ explanations_in told.old.items
+        ++ told_if_unselected (row_below root.now (marked_steps row.now))) }
+{
+    let row = all_below(alloc, row, root)?;
+    if !is_selected(row.as_slice()) {
+        told.push(told_at(alloc, row.as_slice(), &[])?)?;
+    }
+    Ok(())
+}
+
+/// The number of the next element child, behind an item.
+#[tactic(auto, using(crate::proofs::SignLaws::element_laws))]
+fn number_after(item: &Item, number: u64) -> u64
+    requires { number < 2 ^ 64 - 1 }
+    ensures { result ≡ number_after (element_of item.now) number }
+{
+    match item {
+        Item::Text(_) => number,
+        Item::Child(_) => number + 1,
+    }
+}
+
+/// Tells of an element, where a rule selects it, and of those inside it. `place` is its place, before and after the call.
+#[cycle(walk)]
+#[tactic(auto, using(crate::proofs::ToldLaws::rules_below, crate::proofs::Lists::list_steps))]
+fn explain_element(
+    alloc: Global,
+    row: &[Progress<'_>],
+    element: &Element,
+    place: &mut Vec<u64>,
+    told: &mut Vec<Told>,
+) -> Result<(), AllocError>
+    requires { rules_in (marked_steps row.now) ≤ 65536 }
+    ensures place { IfOk result (λ done. place.new.items ≡ place.old.items) }
+    ensures told { IfOk result (λ done. explanations_in told.new.items
+        ≡ explanations_in told.old.items
+        ++ told_from (marked_steps row.now) place.old.items element.now) }
+{
+    let row = all_below(alloc, row, element)?;
+    tell_if_selected(alloc, row.as_slice(), place.as_slice(), told)?;
+    let mut number: u64 = 1;
+    for item in element.items.as_slice() {
+        explain_item(alloc, row.as_slice(), number, item, place, told)?;
+        number = number_after(item, number);
+    }
+    Ok(())
+}
+
+/// Tells of the elements in an item of the element at this place; an element child has this number.
+#[cycle(walk)]
+#[tactic(auto, using(crate::proofs::SignLaws::element_laws, crate::proofs::Lists::list_steps))]
+fn explain_item(
+    alloc: Global,
+    row: &[Progress<'_>],
+    number: u64,
+    item: &Item,
+    place: &mut Vec<u64>,
+    told: &mut Vec<Told>,
+) -> Result<(), AllocError>
+    requires { rules_in (marked_steps row.now) ≤ 65536 }
+    ensures place { IfOk result (λ done. place.new.items ≡ place.old.items) }
+    ensures told { IfOk result (λ done. explanations_in told.new.items
+        ≡ explanations_in told.old.items
+        ++ told_of_child (marked_steps row.now) place.old.items number (element_of item.now)) }
+{
+    match item {
+        Item::Text(_) => Ok(()),
+        Item::Child(child) => {
+            place.push(number)?;
+            explain_element(alloc, row, child.get(), place, told)?;
+            place.pop();
+            Ok(())
+        }
+    }
+}
+
+/// Tells of each element that a rule selects.
+fn explain_all(
+    alloc: Global,
+    row: &[Progress<'_>],
+    doc: &Doc,
+    told: &mut Vec<Told>,
+) -> Result<(), AllocError>
+    requires { rules_in (marked_steps row.now) ≤ 65536 }
+    ensures { IfOk result (λ done. explanations_in told.new.items
+        ≡ explanations_in told.old.items ++ told_from (marked_steps row.now) [] doc.now.root) }
+{
+    let mut place = Vec::new(alloc);
+    explain_element(alloc, row, &doc.root, &mut place, told)?;
+    Ok(())
+}
+
+/// The root, and each element that a rule selects, in document order, with the sign of each and the rule that it comes
+/// from.
+pub fn explain_tree(alloc: Global, doc: &Doc, rules: &[Rule]) -> Result<Vec<Told>, NoMemory>
+    requires { length rules.now ≤ 65536 }
+    ensures exact { IfOk result
+        (λ told. explanations_in told.items ≡ explain doc.now rules.now) }
+{
+    let row = all_begun(alloc, rules)?;
+    let mut told = Vec::new(alloc);
+    tell_if_unselected(alloc, row.as_slice(), &doc.root, &mut told)?;
+    explain_all(alloc, row.as_slice(), doc, &mut told)?;
+    Ok(told)
+}
+
+fn places_of(alloc: Global, told: Vec<Told>) -> Result<Vec<Place>, AllocError>
+    ensures { IfOk result (λ places. places.items ≡ map (λ one. one.place) told.items) }
+{
+    let mut places = Vec::with_capacity(alloc, told.len())?;
+    for one in told {
+        let Told { place, .. } = one;
+        places.push(place)?;
+    }
+    Ok(places)
+}
+
+/// The places of the elements that a path selects, in document order.
+pub fn selected(alloc: Global, doc: &Doc, path: &Path) -> Result<Vec<Place>, NoMemory>
+    ensures exact { IfOk result (λ places. places.items ≡ selected doc.now path.now) }
+{
+    let mut row = Vec::new(alloc);
+    begin(&mut row, Sign::Grant, path.steps.as_slice())?;
+    let mut told = Vec::new(alloc);
+    explain_all(alloc, row.as_slice(), doc, &mut told)?;
+    let places = places_of(alloc, told)?;
+    Ok(places)
+}

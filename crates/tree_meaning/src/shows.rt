@@ -1,0 +1,126 @@
+//! How each element of a document stands in its view, found by one walk in document order. All the memory that writing
+//! the view takes is taken here.
+
+ghost use Rattle.std.specs.Prelude.{◌≡◌, ◌+◌, ◌<◌, ◌||◌, [], ◌++◌, IfOk, length, take, drop};
+ghost use Rattle.std.specs.List.{list_any, flat_map};
+ghost use Rattle.acl_model.specs.declared.rule.Sign.TheVariants.{Deny};
+ghost use Rattle.tree_meaning.specs.Marks.{marked_steps, begun_rule};
+ghost use Rattle.tree_meaning.specs.Shows.{is_shown, show_by_sign, with_show, shows_from, shows_of_item};
+
+use crate::marks::{Progress, all_begun, all_below, sign_of};
+use acl_model::{Doc, Element, Item, Rule, Sign};
+use acl_outside::NoMemory;
+use std::alloc::{AllocError, Global};
+
+/// How an element stands in the view.
+#[derive(Clone, Copy)]
+pub enum Show {
+    /// As it is, with its items as they stand there.
+    Whole,
+    /// For what is inside it.
+    Dummy,
+    /// Not at all, and nothing inside it.
+    Absent,
+}
+
+fn show_of(own: Sign, inside: bool) -> Show
+    ensures { result ≡ show_by_sign own inside }
+{
+    match (own, inside) {
+        (Sign::Grant, _) => Show::Whole,
+        (Sign::Deny, true) => Show::Dummy,
+        (Sign::Deny, false) => Show::Absent,
+    }
+}
+
+fn does_show(show: Show) -> bool
+    ensures { result ≡ is_shown show }
+{
+    match show {
+        Show::Whole => true,
+        Show::Dummy => true,
+        Show::Absent => false,
+    }
+}
+
+fn either(first: bool, second: bool) -> bool
+    ensures { result ≡ (first || second) }
+{
+    first || second
+}
+
+/// Tells how the element at this place of the list stands there. What is inside an absent one falls away.
+fn settle(shows: &mut Vec<Show>, at: usize, show: Show)
+    requires { at < length shows.old.items }
+    ensures { shows.new.items
+        ≡ take at shows.old.items ++ with_show show (drop (at + 1) shows.old.items) }
+{
+    shows[at] = show;
+    match show {
+        Show::Whole => {}
+        Show::Dummy => {}
+        Show::Absent => shows.truncate(at + 1),
+    }
+}
+
+/// Adds how an element and those inside it stand in the view, and answers whether something of it does.
+#[cycle(shows)]
+fn find_shows(
+    alloc: Global,
+    row: &[Progress<'_>],
+    above: Sign,
+    element: &Element,
+    shows: &mut Vec<Show>,
+) -> Result<bool, AllocError>
+    ensures shows { IfOk result (λ shown. shows.new.items
+        ≡ shows.old.items ++ shows_from element.now (marked_steps row.now) above) }
+    ensures shown { IfOk result (λ shown. shown
+        ≡ list_any is_shown (shows_from element.now (marked_steps row.now) above)) }
+{
+    let row = all_below(alloc, row, element)?;
+    let own = sign_of(row.as_slice(), above);
+    let at = shows.len();
+    shows.push(Show::Absent)?;
+    let mut inside = false;
+    for item in element.items.as_slice() {
+        let shown = find_shows_in_item(alloc, row.as_slice(), own, item, shows)?;
+        inside = either(inside, shown);
+    }
+    let show = show_of(own, inside);
+    settle(shows, at, show);
+    Ok(does_show(show))
+}
+
+#[cycle(shows)]
+#[tactic(auto, using(crate::proofs::ShowLaws::show_item_equations))]
+fn find_shows_in_item(
+    alloc: Global,
+    row: &[Progress<'_>],
+    own: Sign,
+    item: &Item,
+    shows: &mut Vec<Show>,
+) -> Result<bool, AllocError>
+    ensures shows { IfOk result (λ shown. shows.new.items
+        ≡ shows.old.items ++ shows_of_item item.now (marked_steps row.now) own) }
+    ensures shown { IfOk result (λ shown. shown
+        ≡ list_any is_shown (shows_of_item item.now (marked_steps row.now) own)) }
+{
+    match item {
+        Item::Text(_) => Ok(false),
+        Item::Child(element) => {
+            let shown = find_shows(alloc, row, own, element.get(), shows)?;
+            Ok(shown)
+        }
+    }
+}
+
+/// How the elements of a document stand in its view, in document order.
+pub fn find_all_shows(alloc: Global, doc: &Doc, rules: &[Rule]) -> Result<Vec<Show>, NoMemory>
+    ensures { IfOk result (λ shows. shows.items
+        ≡ shows_from doc.now.root (flat_map begun_rule rules.now) Deny) }
+{
+    let row = all_begun(alloc, rules)?;
+    let mut shows = Vec::new(alloc);
+    find_shows(alloc, row.as_slice(), Sign::Deny, &doc.root, &mut shows)?;
+    Ok(shows)
+}
