@@ -1,0 +1,6 @@
+mod Lists
+mod CountEquations
+mod LineCounts
+mod ViewCounts
+mod HospitalForm
+mod Numbers

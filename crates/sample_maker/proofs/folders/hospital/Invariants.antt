@@ -1,0 +1,7 @@
+-- The folders before i.
+use Rattle.std.proofs.Common.{◌≡◌, ◌-◌, map}
+use Rattle.sample_maker.specs.Hospital.{folder, one_to}
+use Rattle.sample_maker.proofs.folders.hospital.Given as goal
+
+abbrev pub invariant-loop-i : goal.invariant-loop-i
+invariant-loop-i l = l.folders.items ≡ map folder (one_to (l.i - 1))

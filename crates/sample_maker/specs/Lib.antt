@@ -1,0 +1,3 @@
+pub mod Hospital
+pub mod Sample
+pub mod Counts

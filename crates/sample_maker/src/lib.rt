@@ -1,0 +1,15 @@
+//! The sample document: a hospital with as many folders as asked for, and the line that tells how large it is.
+#![tactic(auto)]
+
+mod counts;
+mod folders;
+mod laws;
+mod line;
+mod rule;
+
+pub use folders::hospital;
+pub use laws::hospitals_are_documents;
+pub use line::sample_line;
+
+#[cfg(test)]
+mod tests;
