@@ -15,7 +15,8 @@ pub data Object : Type 0 where
 pub data Subject : Type 0 where
   a_length : Subject  -- how many bytes a source gives
   a_document : Subject  -- the lines of a document
-  a_licence : Subject  -- a licence, or the body of one
+  a_seal : Subject  -- the seal of a licence
+  a_licence : Subject  -- the lines of a licence, or of the body of one
   some_states : Subject  -- how many steps and predicates there are, in the rules of a licence or in a query
   a_query : Subject  -- the path of a query
   some_keys : Subject  -- the text of the keys
@@ -48,7 +49,7 @@ end_of (NameTooLong line) = refused a_document
 end_of (InputTooLong limit) = refused a_length
 end_of SourceFault = fault input
 end_of (TooManyAttributes line) = refused a_document
-end_of (BadSeal given made) = refused a_licence
+end_of (BadSeal given made) = refused a_seal
 end_of (BadRule line at) = refused a_licence
 end_of (BadLicence line) = refused a_licence
 end_of TooManyRules = refused a_licence

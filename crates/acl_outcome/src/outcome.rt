@@ -17,7 +17,7 @@ pub enum Outcome {
     KeysFault,
     /// A write of a note failed, after the whole of the output was written.
     NoteFault,
-    /// A line of the input is not of the form of any line of a document. 0 as a line stands for a fault that isn't placed.
+    /// A line of the input is not of the form of any line of a document, or stands behind the line `C`.
     BadLine {
         line: u32,
     },
@@ -59,7 +59,7 @@ pub enum Outcome {
         given: [u8; 32],
         made: [u8; 32],
     },
-    /// A rule's path is refused, at this place of it, from 0. Line 0 stands for a body that is refused without a place.
+    /// The path of the rule in this line is refused, at this place of it, from 0.
     BadRule {
         line: u32,
         at: u32,
