@@ -1,8 +1,15 @@
 pub mod Command
+pub mod Encode
 pub mod Objects
+pub mod Options
+pub mod Outcomes
 pub mod Preview
+pub mod Readers
 pub mod Reading
 pub mod Request
+pub mod Seal
+pub mod Steps
 pub mod Texts
 pub mod Words
+pub mod Writing
 pub mod Work

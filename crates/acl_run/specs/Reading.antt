@@ -1,8 +1,8 @@
 -- How one source is read and asked in a run. This project's own.
-use Rattle.std.specs.Prelude.{◌≡◌, Bool, true, false, Result, Ok, Err}
+use Rattle.std.specs.Prelude.{◌≡◌, Bool, true, false, Result, Ok, Err, [], ◌∷◌}
 use Rattle.acl_outcome.specs.declared.outcome.Outcome.{Outcome}
-use Rattle.acl_outcome.specs.Ends.{Object, End, done, no_memory, usage, fault, stopped, refused, end_of, is_same, is_fault_of}
-use Rattle.acl_run.specs.Work.{Question, may_refuse, OrNoMemory, OrFaultOf}
+use Rattle.acl_outcome.specs.Ends.{Object, End, done, no_memory, usage, fault, stopped, refused, end_of, is_fault_of}
+use Rattle.acl_run.specs.Steps.{Question, unknown, reads, asks, may_end_in, OrNoMemory, OrFaultOf}
 
 -- whether a fault of this object is answered in place of a value
 abbrev pub is_fault_in : {A : Type 0} → Object → Result A Outcome → Bool
@@ -23,20 +23,20 @@ abbrev pub is_about_bytes : {A : Type 0} → Result A Outcome → Bool
 is_about_bytes (Ok a) = true
 is_about_bytes (Err outcome) = is_refusal (end_of outcome)
 
--- whether a run may come to this outcome and its end where it reads this object and asks this question
-abbrev pub ends_at : Object → Question → Outcome → End → Bool
-ends_at x question outcome done = false
-ends_at x question outcome no_memory = true
-ends_at x question outcome usage = false
-ends_at x question outcome (fault y) = is_same x y
-ends_at x question outcome stopped = false
-ends_at x question outcome (refused subject) = may_refuse question outcome
+-- whether a run may end so where it reads this object and asks this question
+abbrev pub ends_reading : Object → Question → End → Bool
+ends_reading x question e = may_end_in (reads x ∷ asks question unknown ∷ []) e
 
--- whether a run may come to this outcome where it reads this object and asks this question
-abbrev pub may_end_at : Object → Question → Outcome → Bool
-may_end_at x question outcome = ends_at x question outcome (end_of outcome)
+-- whether a run may end so where it asks this question
+abbrev pub ends_asking : Question → End → Bool
+ends_asking question e = may_end_in (asks question unknown ∷ []) e
 
 -- The wanted value or refusal is answered, or else want of memory or a fault of the object that was read.
 abbrev pub Answers : {A : Type 0} → Object → Result A Outcome → Result A Outcome → Type 0
 Answers x wanted (Ok a) = wanted ≡ Ok a
 Answers x wanted (Err outcome) = OrNoMemory (end_of outcome) (OrFaultOf x (end_of outcome) (wanted ≡ Err outcome))
+
+-- The wanted value or refusal is answered, or else want of memory. No object is used.
+abbrev pub AnswersAlone : {A : Type 0} → Result A Outcome → Result A Outcome → Type 0
+AnswersAlone wanted (Ok a) = wanted ≡ Ok a
+AnswersAlone wanted (Err outcome) = OrNoMemory (end_of outcome) (wanted ≡ Err outcome)

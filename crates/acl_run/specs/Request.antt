@@ -1,27 +1,46 @@
 -- What the code reads from words, as the definitions have it.
+use Rattle.std.specs.Prelude.{◌≤◌}
 use Rattle.std.specs.Option.{option_copied}
-use Rattle.acl_run.specs.Command.{Command}
-use Rattle.acl_run.specs.Words as word
-use Rattle.acl_run.specs.declared.words.Awaited.{Awaited}
-use Rattle.acl_run.specs.declared.words.Awaited.TheVariants.{AnOption, Query}
-use Rattle.acl_run.specs.declared.words.Options.{Options}
-use Rattle.acl_run.specs.declared.words.Reading.{Reading}
-use Rattle.acl_run.specs.declared.words.Request.{Request}
-use Rattle.acl_run.specs.declared.words.Request.TheVariants.{Preview}
+use Rattle.acl_run.specs.Command as word
+use Rattle.acl_run.specs.Options as option
+use Rattle.acl_run.specs.declared.options.Awaited.{Awaited}
+use Rattle.acl_run.specs.declared.options.Awaited.TheVariants.{AnOption, Query}
+use Rattle.acl_run.specs.declared.options.Options.{Options}
+use Rattle.acl_run.specs.declared.options.Reading.{Reading}
+use Rattle.acl_run.specs.declared.request.Shown.{Shown}
+use Rattle.acl_run.specs.declared.request.Shown.TheVariants.{View, Answer, Explanation}
+use Rattle.acl_run.specs.declared.request.Request.{Request}
+use Rattle.acl_run.specs.declared.request.Request.TheVariants.{Preview, Encode, Seal, Sample}
+
+-- what is to be shown
+abbrev pub meant_shown : Shown → word.Shown
+meant_shown View = word.Shown.the_view
+meant_shown (Answer query) = word.Shown.an_answer query.now
+meant_shown Explanation = word.Shown.an_explanation
 
 -- the command that is asked for
-abbrev pub command_of : Request → Command
-command_of Preview = Command.preview
+abbrev pub command_of : Request → word.Command
+command_of (Preview shown) = word.Command.preview (meant_shown shown)
+command_of Encode = word.Command.encode
+command_of Seal = word.Command.seal
+command_of (Sample size) = word.Command.sample size
+
+-- What a request for a sample asks for can be made: it has 1 to 20,000 folders.
+abbrev pub CanBeMade : Request → Type 0
+CanBeMade (Preview shown) = Unit {0}
+CanBeMade Encode = Unit {0}
+CanBeMade Seal = Unit {0}
+CanBeMade (Sample size) = (1 ≤ size) × (size ≤ 20000)
 
 -- the options that are given
-abbrev pub meant_options : Options → word.Options
+abbrev pub meant_options : Options → option.Options
 meant_options options = record { query = option_copied options.query; explain = options.explain }
 
 -- what the next word is
-abbrev pub meant_awaited : Awaited → word.Awaited
-meant_awaited AnOption = word.Awaited.an_option
-meant_awaited Query = word.Awaited.a_query
+abbrev pub meant_awaited : Awaited → option.Awaited
+meant_awaited AnOption = option.Awaited.an_option
+meant_awaited Query = option.Awaited.a_query
 
 -- what was read so far
-abbrev pub meant_reading : Reading → word.Reading
+abbrev pub meant_reading : Reading → option.Reading
 meant_reading reading = record { options = meant_options reading.options; awaited = meant_awaited reading.awaited }

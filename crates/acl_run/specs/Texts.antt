@@ -3,16 +3,27 @@ use Rattle.std.specs.Prelude.{ℕ, Option, List, []}
 use Rattle.std.specs.Io.KnownBytes.{Appends}
 use Rattle.acl_outside.specs.Outside.{AppendsPart}
 use Rattle.acl_outcome.specs.Ends.{keys, input, store, out, note, End, done, no_memory, usage, fault, stopped, refused}
-use Rattle.acl_run.specs.Command.{Command, preview}
-use Rattle.acl_run.specs.Preview.{view_text}
+use Rattle.acl_model.specs.Text.{text}
+use Rattle.sample_maker.specs.Hospital.{hospital}
+use Rattle.sample_maker.specs.Sample.{sample_line}
+use Rattle.acl_run.specs.Command.{Command, preview, encode, seal, sample}
+use Rattle.acl_run.specs.Encode.{encode_text, encode_note}
+use Rattle.acl_run.specs.Preview.{preview_text}
+use Rattle.acl_run.specs.Seal.{seal_text}
 
 -- the text that is due on the output, for what the keys and the input hold
 abbrev pub due_out : Command → List ℕ → List ℕ → List ℕ
-due_out preview rules lines = view_text rules lines
+due_out (preview what) rules lines = preview_text what rules lines
+due_out encode secret lines = encode_text secret lines
+due_out seal secret body = seal_text secret body
+due_out (sample size) rules lines = text (hospital size)
 
 -- the text that is due as a note
 abbrev pub due_note : Command → List ℕ → List ℕ → List ℕ
-due_note preview rules lines = []
+due_note (preview what) rules lines = []
+due_note encode secret lines = encode_note secret lines
+due_note seal secret body = []
+due_note (sample size) rules lines = sample_line size
 
 -- The fact holds where the whole of the output was written: all is done, or only the note failed.
 abbrev pub WhereWhole : End → Type 0 → Type 0
@@ -26,6 +37,15 @@ WhereWhole (fault out) fact = Unit {0}
 WhereWhole (fault note) fact = fact
 WhereWhole stopped fact = Unit {0}
 WhereWhole (refused subject) fact = Unit {0}
+
+-- The fact holds where all was written, a note too.
+abbrev pub WhereDone : End → Type 0 → Type 0
+WhereDone done fact = fact
+WhereDone no_memory fact = Unit {0}
+WhereDone usage fact = Unit {0}
+WhereDone (fault x) fact = Unit {0}
+WhereDone stopped fact = Unit {0}
+WhereDone (refused subject) fact = Unit {0}
 
 -- The text that is due on the output: the whole of it where all is done or only the note failed, and a front part of
 -- it where the output failed or a watcher stopped it.

@@ -1,95 +1,80 @@
 -- The command lines that are taken. The first word is the command, the words that it must have follow, and what is left
--- are options in any order, each at most once. This project's own.
-use Rattle.std.specs.Prelude.{ℕ, nat_eq, Bool, true, false, not, ◌&&◌, codes, is_none, Option, Some, None, List, [], ◌∷◌, if◌then◌else◌}
-use Rattle.std.specs.Option.{option_and_then}
-use Rattle.std.specs.Cmp.Lexicographic.{pointwise}
-use Rattle.acl_model.specs.Ascii.{hyphen}
-use Rattle.licence.specs.Body.{text_behind}
-use Rattle.acl_run.specs.Command.{Command, preview}
+-- are options. This project's own.
+use Rattle.std.specs.Prelude.{ℕ, nat_eq, nat_le, nat_lt, Bool, true, false, not, ◌&&◌, codes, Option, Some, None, List, [], ◌∷◌, length, if◌then◌else◌}
+use Rattle.std.specs.Option.{option_map, option_and_then}
+use Rattle.std.specs.Char.{is_ascii_digit}
+use Rattle.std.specs.List.{list_all}
+use Rattle.std.specs.Str.Parse.{digits_value}
+use Rattle.acl_run.specs.Command.{Command, Shown, the_view, an_answer, an_explanation, preview, encode, seal, sample}
+use Rattle.acl_run.specs.Options.{Options, is_word, options_of}
 
--- ---- options
+-- ---- `preview RULES [--query P] [--explain]`
 
--- the options that are given
-pub record Options : Type 0 where
-  pub query : Option (List ℕ)  -- `--query P`: the path of a query
-  pub explain : Bool  -- `--explain`
+-- What is shown under these options: by `--query` and by `--explain`, of which only one may be given.
+abbrev pub shown_by : Option (List ℕ) → Bool → Option Shown
+shown_by None false = Some the_view
+shown_by None true = Some an_explanation
+shown_by (Some query) false = Some (an_answer query)
+shown_by (Some query) true = None
 
--- what the next word is
-pub data Awaited : Type 0 where
-  an_option : Awaited
-  a_query : Awaited  -- the value of `--query`
-
--- what was read of the options so far
-pub record Reading : Type 0 where
-  pub options : Options
-  pub awaited : Awaited
-
--- no option is given
-abbrev pub no_options : Options
-no_options = record { query = None; explain = false }
-
--- whether two words are the same
-abbrev pub is_word : List ℕ → List ℕ → Bool
-is_word word other = pointwise nat_eq word other
-
--- A value is not empty and does not begin with `-`.
-abbrev pub is_value : List ℕ → Bool
-is_value [] = false
-is_value (b ∷ bytes) = not (nat_eq b hyphen)
-
--- the options with this value of `--query`, which had none
-abbrev pub with_query : Options → List ℕ → Option Reading
-with_query options value =
-    if is_none options.query && is_value value
-    then Some (record { options = record options { query = Some value }; awaited = an_option })
-    else None
-
--- the options with `--explain`, which was not given
-abbrev pub with_explain : Options → Option Reading
-with_explain options =
-    if options.explain then None else Some (record { options = record options { explain = true }; awaited = an_option })
-
--- The options after one more word that begins an option: a row for each. A value stands behind `=` or is the next word.
-unfoldable pub with_option : Options → List ℕ → Option Reading
-with_option options word =
-    if is_word word (codes "--explain") then with_explain options
-    else if is_word word (codes "--query") then Some (record { options = options; awaited = a_query })
-    else option_and_then (λ value. with_query options value) (text_behind (codes "--query=") word)
-
--- the options after one more word
-abbrev pub with_word : Awaited → Options → List ℕ → Option Reading
-with_word an_option options word = with_option options word
-with_word a_query options word = with_query options word
-
--- the options at the end of the words, where no value is awaited any more
-abbrev pub options_at_end : Awaited → Options → Option Options
-options_at_end an_option options = Some options
-options_at_end a_query options = None
-
--- the options after all of these words
-abbrev pub options_from : Option Reading → List (List ℕ) → Option Options
-options_from None words = None
-options_from (Some reading) [] = options_at_end reading.awaited reading.options
-options_from (Some reading) (word ∷ words) = options_from (with_word reading.awaited reading.options word) words
-
--- The options that these words give, each at most once, in any order.
-unfoldable pub options_of : List (List ℕ) → Option Options
-options_of words = options_from (Some (record { options = no_options; awaited = an_option })) words
-
--- ---- commands
-
--- `preview` takes no option yet.
+-- `preview` with these options
 abbrev pub preview_with : Options → Option Command
-preview_with options = if is_none options.query && not options.explain then Some preview else None
+preview_with options = option_map preview (shown_by options.query options.explain)
 
 -- `RULES` and options. RULES is taken as it stands.
 abbrev pub preview_of : List (List ℕ) → Option Command
 preview_of [] = None
 preview_of (rules ∷ options) = option_and_then preview_with (options_of options)
 
+-- ---- `encode KEYS`
+
+-- `KEYS`, taken as it stands, and no option
+abbrev pub encode_of : List (List ℕ) → Option Command
+encode_of [] = None
+encode_of (keys ∷ []) = Some encode
+encode_of (keys ∷ word ∷ words) = None
+
+-- ---- `seal KEYS`
+
+-- `KEYS`, taken as it stands, and no option
+abbrev pub seal_of : List (List ℕ) → Option Command
+seal_of [] = None
+seal_of (keys ∷ []) = Some seal
+seal_of (keys ∷ word ∷ words) = None
+
+-- ---- `sample N`
+
+-- The first byte is a '0'.
+abbrev pub begins_with_zero : List ℕ → Bool
+begins_with_zero [] = false
+begins_with_zero (b ∷ bytes) = nat_eq b 48
+
+-- 1 to 6 digits, of which the first is no zero
+abbrev pub is_numeral : List ℕ → Bool
+is_numeral word = nat_lt 0 (length word) && nat_le (length word) 6 && list_all is_ascii_digit word && not (begins_with_zero word)
+
+-- A sample has 1 to 20,000 folders.
+abbrev pub is_sample_size : ℕ → Bool
+is_sample_size n = nat_le 1 n && nat_le n 20000
+
+-- how many folders a word asks for, in decimal
+unfoldable pub size_of : List ℕ → Option ℕ
+size_of word = if is_numeral word && is_sample_size (digits_value 10 word) then Some (digits_value 10 word) else None
+
+-- `N`, and no option
+abbrev pub sample_of : List (List ℕ) → Option Command
+sample_of [] = None
+sample_of (size ∷ []) = option_map sample (size_of size)
+sample_of (size ∷ word ∷ words) = None
+
+-- ---- all commands
+
 -- The command that the words of a command line ask for: a row for each. No other words are a command line.
 abbrev pub words_of : List (List ℕ) → Option Command
 words_of [] = None
 words_of (name ∷ words) =
     if is_word name (codes "preview") then preview_of words
+    else if is_word name (codes "encode") then encode_of words
+    else if is_word name (codes "seal") then seal_of words
+    else if is_word name (codes "sample") then sample_of words
     else None

@@ -1,9 +1,16 @@
 //! The top call of `acl`: what a command line asks for, from sources of bytes to sinks of bytes.
 #![tactic(auto)]
 
+mod encode;
+mod options;
 mod preview;
+mod readers;
+mod request;
+mod sample;
+mod seal;
 mod top;
 mod words;
+mod writing;
 
 pub use acl_outcome::{Outcome, outcome_text, status};
 pub use top::run;

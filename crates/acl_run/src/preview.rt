@@ -1,138 +1,216 @@
-//! `preview`: the view of a document under a licence body, with no file between. The rules are read and refused before
-//! the document, and the document before the first byte is written.
+//! `preview`: what a document shows under a licence body, with no file between: its view, the answer of a query, or where
+//! its signs come from. The rules are read and refused first, then the query, then the document, and then the first byte
+//! is written.
 
-ghost use Rattle.std.specs.Prelude.{◌≡◌, ◌+◌, IsTrue, IfSome, IfOk, OnOk, IfErr};
+ghost use Rattle.std.specs.Prelude.{◌≡◌, ◌≤◌, ◌+◌, [], Some, None, IsTrue, IfSome, IfErr, OnOk, length};
 ghost use Rattle.std.specs.Bool.{OnTrue};
 ghost use Rattle.std.specs.Io.KnownBytes.{IsAtEnd};
-ghost use Rattle.acl_model.specs.ChildSteps.{are_child_rules};
+ghost use Rattle.acl_model.specs.Explain.{explain_text, explanation_lines};
 ghost use Rattle.acl_model.specs.Text.{text_of_view};
+ghost use Rattle.acl_model.specs.View as model;
 ghost use Rattle.acl_outside.specs.Outside.{AreAllSettled};
 ghost use Rattle.acl_outside.specs.Writing.{Writes};
 ghost use Rattle.esis_lines.specs.Answers.{TakesUpTo};
+ghost use Rattle.licence.specs.BodyText.{most_rules};
+ghost use Rattle.tree_meaning.specs.Shows.{WritesView};
+ghost use Rattle.tree_meaning.specs.Told.{explanations_in};
 ghost use Rattle.acl_outcome.specs.Ends.{Object, end_of, is_fault_of};
 ghost use Rattle.acl_run.specs.Command.{Command};
 ghost use Rattle.acl_run.specs.Objects.{LeavesSource, LeavesSink};
-ghost use Rattle.acl_run.specs.Preview.{outcome_of_refusal, licence_of, document_of};
-ghost use Rattle.acl_run.specs.Reading.{is_fault_in, is_about_bytes, may_end_at, Answers};
+ghost use Rattle.acl_run.specs.Preview.{wanted_by, wanted_text};
+ghost use Rattle.acl_run.specs.Reading.{AnswersAlone};
+ghost use Rattle.acl_run.specs.Request.{meant_shown};
+ghost use Rattle.acl_run.specs.Steps.{Follows};
 ghost use Rattle.acl_run.specs.Texts.{WritesText, WhereWhole, due_out};
-ghost use Rattle.acl_run.specs.Work.{Question, steps_of, Follows, may_end};
-ghost use Rattle.acl_run.specs.Work.{is_behind_keys, is_behind_input, precedes_input};
-ghost use Rattle.acl_run.specs.Work.{keys_limit, input_limit, precedes_output};
+ghost use Rattle.acl_run.specs.Work.{steps_of, ends_at_query, may_end, keys_limit, input_limit};
+ghost use Rattle.acl_run.specs.Work.{is_behind_keys, is_behind_input, precedes_input, precedes_output};
+ghost use Rattle.acl_run.specs.Writing.{EndsWriting};
 
-use acl_model::Doc;
+use crate::readers::{read_document, read_query, read_rules};
+use crate::request::Shown;
+use acl_model::{Bytes, Doc, Path, Rule, Sign};
 use acl_outcome::Outcome;
 use acl_outside::{Failed, Sink, Source, finish};
-use esis_lines::{DocFault, ReadAllFault, read_all, read_doc, write_doc};
-use licence::{BodyFault, Licence, Refusal, read_body};
+use licence::Licence;
 use std::alloc::Global;
-use tree_meaning::view_tree;
+use tree_meaning::{Told, WriteViewFault, explain_tree, view_tree, write_explanation, write_view};
 
-/// The most bytes of a licence body.
-const BODY_LIMIT: u32 = 131_072;
-
-/// No place in a body is told yet.
-fn refusal_outcome(refusal: Refusal) -> Outcome
-    ensures { result ≡ outcome_of_refusal refusal }
-{
-    match refusal {
-        Refusal::BadLine { .. } => Outcome::BadRule { line: 0, at: 0 },
-        Refusal::BadPath { .. } => Outcome::BadRule { line: 0, at: 0 },
-        Refusal::TooManyRules => Outcome::BadRule { line: 0, at: 0 },
-        Refusal::TooManySteps => Outcome::BadRule { line: 0, at: 0 },
-    }
+/// What is wanted of a document.
+#[derive(Debug, Drop)]
+enum Wanted {
+    /// Its view.
+    View,
+    /// What this path, a query, selects in its view.
+    Answer(Path),
+    /// Where the signs of its elements come from.
+    Explanation,
 }
 
-/// Reads the source of the rules to its end, and then the body that it holds.
-#[tactic(auto, unfolding(crate::specs::Preview::licence_of, crate::specs::Work::may_refuse))]
-fn read_rules<K: Source>(alloc: Global, keys: &mut K) -> Result<Licence, Outcome>
-    ensures answer { IfSome (K.left keys.old)
-        (λ bytes. Answers Object.keys (licence_of bytes) result) }
+/// What is wanted by a user.
+fn read_wanted(alloc: Global, shown: Shown<'_>, user: &[u8]) -> Result<Wanted, Outcome>
+    ensures answer { AnswersAlone (wanted_by user.now (meant_shown shown.entry)) result }
     ensures ends { IfErr result
-        (λ outcome. IsTrue (may_end_at Object.keys Question.are_rules outcome)) }
-    ensures child_steps { IfOk result (λ licence. IsTrue (are_child_rules licence.rules)) }
-    ensures to_the_end { OnOk result (IsAtEnd (K.left keys.new)) }
-    ensures read { OnTrue (is_about_bytes result)
-        (TakesUpTo (keys_limit Command.preview + 1) (K.left keys.old) (K.left keys.new)) }
-    ensures source { LeavesSource K.left K.faults (is_fault_in Object.keys result)
-        (keys_limit Command.preview) keys.old keys.new }
+        (λ outcome. IsTrue (ends_at_query (meant_shown shown.entry) (end_of outcome))) }
 {
-    let bytes = match read_all(alloc, keys, BODY_LIMIT) {
-        Ok(bytes) => bytes,
-        Err(ReadAllFault::TooLong { .. }) => return Err(Outcome::BadRule { line: 0, at: 0 }),
-        Err(ReadAllFault::Failed) => return Err(Outcome::KeysFault),
-        Err(ReadAllFault::NoMemory) => return Err(Outcome::NoMemory),
-    };
-    match read_body(alloc, bytes.as_slice()) {
-        Ok(licence) => Ok(licence),
-        Err(BodyFault::Refused(refusal)) => Err(refusal_outcome(refusal)),
-        Err(BodyFault::NoMemory) => Err(Outcome::NoMemory),
+    match shown {
+        Shown::View => Ok(Wanted::View),
+        Shown::Answer(query) => match read_query(alloc, query, user) {
+            Ok(path) => Ok(Wanted::Answer(path)),
+            Err(outcome) => Err(outcome),
+        },
+        Shown::Explanation => Ok(Wanted::Explanation),
     }
 }
 
-/// Reads the input to its end, and then the document that it holds.
-#[tactic(auto, unfolding(crate::specs::Preview::document_of, crate::specs::Work::may_refuse))]
-fn read_document<Q: Source>(alloc: Global, input: &mut Q) -> Result<Doc, Outcome>
-    ensures answer { IfSome (Q.left input.old)
-        (λ bytes. Answers Object.input (document_of bytes) result) }
-    ensures ends { IfErr result
-        (λ outcome. IsTrue (may_end_at Object.input Question.is_document outcome)) }
-    ensures to_the_end { OnOk result (IsAtEnd (Q.left input.new)) }
-    ensures read { OnTrue (is_about_bytes result)
-        (TakesUpTo (input_limit Command.preview + 1) (Q.left input.old) (Q.left input.new)) }
-    ensures source { LeavesSource Q.left Q.faults (is_fault_in Object.input result)
-        (input_limit Command.preview) input.old input.new }
-{
-    match read_doc(alloc, input) {
-        Ok(doc) => Ok(doc),
-        Err(DocFault::BadLine { line }) => Err(Outcome::BadLine { line }),
-        Err(DocFault::SourceFault) => Err(Outcome::SourceFault),
-        Err(DocFault::NoMemory) => Err(Outcome::NoMemory),
-    }
-}
+// ---- writing
 
-/// Writes the lines of a view, and sees that the sink holds none of them back.
-fn write_view<W: Sink>(view: &Option<Doc>, out: &mut W) -> Result<(), Failed>
-    ensures written { Writes W.written W.missed W.settled W.faults result out.old out.new
-        (text_of_view view.now) }
+/// Writes a view, and sees that the sink holds none of it back.
+fn write_settled_view<W: Sink>(
+    alloc: Global,
+    doc: &Doc,
+    rules: &[Rule],
+    out: &mut W,
+) -> Result<(), WriteViewFault>
+    ensures written { WritesView W.written W.missed W.settled W.faults result out.old out.new
+        (text_of_view (model.view doc.now rules.now)) }
     ensures settled { OnOk result (AreAllSettled (W.settled out.new) (W.written out.new)) }
 {
-    if let Some(doc) = view {
-        write_doc(doc, out)?;
+    write_view(alloc, doc, rules, out)?;
+    match finish(out) {
+        Ok(()) => Ok(()),
+        Err(_) => Err(WriteViewFault::Failed),
     }
+}
+
+/// Writes an explanation, and sees that the sink holds none of it back.
+fn write_settled_explanation<W: Sink>(
+    told: &[Told],
+    rules: &[Rule],
+    out: &mut W,
+) -> Result<(), Failed>
+    ensures written { Writes W.written W.missed W.settled W.faults result out.old out.new
+        (explanation_lines rules.now (explanations_in told.now)) }
+    ensures settled { OnOk result (AreAllSettled (W.settled out.new) (W.written out.new)) }
+{
+    write_explanation(told, rules, out)?;
     finish(out)
 }
 
-/// Reads the rules, then the document, and writes the authorised view.
-#[tactic(auto, using(crate::proofs::Steps::steps))]
+/// Shows the view of a document.
+#[tactic(auto, using(crate::proofs::WritingLaws::writings))]
+fn show_view<W: Sink>(alloc: Global, doc: &Doc, rules: &[Rule], out: &mut W) -> Outcome
+    ensures { EndsWriting W.written W.missed W.settled W.faults result out.old out.new
+        (text_of_view (model.view doc.now rules.now)) }
+{
+    match write_settled_view(alloc, doc, rules, out) {
+        Ok(()) => Outcome::Done,
+        Err(WriteViewFault::Failed) => Outcome::SinkFault,
+        Err(WriteViewFault::NoMemory) => Outcome::NoMemory,
+    }
+}
+
+/// Shows nothing, and sees that the sink holds no earlier byte back.
+#[tactic(auto, using(crate::proofs::WritingLaws::writings))]
+fn show_nothing<W: Sink>(out: &mut W) -> Outcome
+    ensures { EndsWriting W.written W.missed W.settled W.faults result out.old out.new [] }
+{
+    match finish(out) {
+        Ok(()) => Outcome::Done,
+        Err(_) => Outcome::SinkFault,
+    }
+}
+
+/// Shows the answer of a query: what its path selects in the view of the document. Its predicates see the view alone.
+#[tactic(auto, using(crate::proofs::WritingLaws::writings))]
+fn show_answer<W: Sink>(
+    alloc: Global,
+    doc: &Doc,
+    rules: &[Rule],
+    path: Path,
+    out: &mut W,
+) -> Outcome
+    ensures { EndsWriting W.written W.missed W.settled W.faults result out.old out.new
+        (model.out doc.now rules.now (Some path)) }
+{
+    let query = [Rule {
+        id: Bytes::new(alloc),
+        sign: Sign::Grant,
+        path,
+    }];
+    match view_tree(alloc, doc, rules) {
+        Ok(Some(view)) => show_view(alloc, &view, &query, out),
+        Ok(None) => show_nothing(out),
+        Err(_) => Outcome::NoMemory,
+    }
+}
+
+/// Shows where the signs of a document's elements come from.
+#[tactic(auto, using(crate::proofs::WritingLaws::writings))]
+fn show_explanation<W: Sink>(alloc: Global, doc: &Doc, rules: &[Rule], out: &mut W) -> Outcome
+    requires { length rules.now ≤ most_rules }
+    ensures { EndsWriting W.written W.missed W.settled W.faults result out.old out.new
+        (explain_text doc.now rules.now) }
+{
+    let Ok(told) = explain_tree(alloc, doc, rules) else {
+        return Outcome::NoMemory;
+    };
+    match write_settled_explanation(told.as_slice(), rules, out) {
+        Ok(()) => Outcome::Done,
+        Err(_) => Outcome::SinkFault,
+    }
+}
+
+/// Shows what is wanted of a document.
+fn show<W: Sink>(alloc: Global, doc: &Doc, rules: &[Rule], wanted: Wanted, out: &mut W) -> Outcome
+    requires { length rules.now ≤ most_rules }
+    ensures { EndsWriting W.written W.missed W.settled W.faults result out.old out.new
+        (wanted_text doc.now rules.now wanted) }
+{
+    match wanted {
+        Wanted::View => show_view(alloc, doc, rules, out),
+        Wanted::Answer(path) => show_answer(alloc, doc, rules, path, out),
+        Wanted::Explanation => show_explanation(alloc, doc, rules, out),
+    }
+}
+
+// ---- the command
+
+/// Reads the rules, then the query, then the document, and writes what is to be shown.
+#[tactic(auto, using(crate::proofs::PreviewSteps::steps))]
 pub fn preview<K: Source, Q: Source, W: Sink>(
     alloc: Global,
+    shown: Shown<'_>,
     keys: &mut K,
     input: &mut Q,
     out: &mut W,
 ) -> Outcome
-    ensures order { Follows
-        (steps_of Command.preview (K.left keys.old) (Q.left input.old)) result }
-    ensures ends { IsTrue (may_end Command.preview result) }
+    ensures order { Follows (steps_of (Command.preview (meant_shown shown.entry))
+        (K.left keys.old) (Q.left input.old)) result }
+    ensures ends { IsTrue (may_end (Command.preview (meant_shown shown.entry)) result) }
     ensures text { IfSome (K.left keys.old) (λ rules. IfSome (Q.left input.old) (λ lines.
         WritesText (end_of result) (W.written out.old) (W.written out.new)
-        (due_out Command.preview rules lines))) }
+        (due_out (Command.preview (meant_shown shown.entry)) rules lines))) }
     ensures settled { WhereWhole (end_of result)
         (AreAllSettled (W.settled out.new) (W.written out.new)) }
     ensures keys_end { WhereWhole (end_of result) (IsAtEnd (K.left keys.new)) }
     ensures input_end { WhereWhole (end_of result) (IsAtEnd (Q.left input.new)) }
 
-    ensures keys_read { OnTrue (is_behind_keys Command.preview (end_of result))
-        (TakesUpTo (keys_limit Command.preview + 1) (K.left keys.old) (K.left keys.new)) }
-    ensures input_read { OnTrue (is_behind_input Command.preview (end_of result))
-        (TakesUpTo (input_limit Command.preview + 1) (Q.left input.old) (Q.left input.new)) }
-    ensures unread { OnTrue (precedes_input Command.preview (end_of result))
+    ensures keys_read { let c = Command.preview (meant_shown shown.entry) in
+        OnTrue (is_behind_keys c (end_of result))
+        (TakesUpTo (keys_limit c + 1) (K.left keys.old) (K.left keys.new)) }
+    ensures input_read { let c = Command.preview (meant_shown shown.entry) in
+        OnTrue (is_behind_input c (end_of result))
+        (TakesUpTo (input_limit c + 1) (Q.left input.old) (Q.left input.new)) }
+    ensures unread { OnTrue
+        (precedes_input (Command.preview (meant_shown shown.entry)) (end_of result))
         (input.new ≡ input.old) }
-    ensures unwritten { OnTrue (precedes_output Command.preview (end_of result))
+    ensures unwritten { OnTrue
+        (precedes_output (Command.preview (meant_shown shown.entry)) (end_of result))
         (out.new ≡ out.old) }
     ensures keys { LeavesSource K.left K.faults (is_fault_of Object.keys (end_of result))
-        (keys_limit Command.preview) keys.old keys.new }
+        (keys_limit (Command.preview (meant_shown shown.entry))) keys.old keys.new }
     ensures input { LeavesSource Q.left Q.faults (is_fault_of Object.input (end_of result))
-        (input_limit Command.preview) input.old input.new }
+        (input_limit (Command.preview (meant_shown shown.entry))) input.old input.new }
     ensures out { LeavesSink W.written W.missed W.settled W.faults
         (is_fault_of Object.out (end_of result)) out.old out.new }
 {
@@ -140,15 +218,13 @@ pub fn preview<K: Source, Q: Source, W: Sink>(
         Ok(licence) => licence,
         Err(outcome) => return outcome,
     };
+    let wanted = match read_wanted(alloc, shown, licence.user.as_slice()) {
+        Ok(wanted) => wanted,
+        Err(outcome) => return outcome,
+    };
     let doc = match read_document(alloc, input) {
         Ok(doc) => doc,
         Err(outcome) => return outcome,
     };
-    let Ok(view) = view_tree(alloc, &doc, licence.rules.as_slice()) else {
-        return Outcome::NoMemory;
-    };
-    match write_view(&view, out) {
-        Ok(()) => Outcome::Done,
-        Err(_) => Outcome::SinkFault,
-    }
+    show(alloc, &doc, licence.rules.as_slice(), wanted, out)
 }

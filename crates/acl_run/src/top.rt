@@ -8,24 +8,35 @@ ghost use Rattle.acl_outside.specs.Outside.{AreAllSettled};
 ghost use Rattle.esis_lines.specs.Answers.{TakesUpTo};
 ghost use Rattle.acl_outcome.specs.Ends.{Object, end_of, is_fault_of};
 ghost use Rattle.acl_run.specs.Objects.{LeavesSource, LeavesSink, LeavesStore};
-ghost use Rattle.acl_run.specs.Texts.{WritesText, WritesNote, WhereWhole, due_out, due_note};
+ghost use Rattle.acl_run.specs.Texts.{WritesText, WritesNote, WhereWhole, WhereDone, due_out, due_note};
 ghost use Rattle.acl_run.specs.Words.{words_of};
-ghost use Rattle.acl_run.specs.Work.{steps_of, Follows, may_end, uses, keys_for, input_for};
+ghost use Rattle.acl_run.specs.Steps.{Follows};
+ghost use Rattle.acl_run.specs.Work.{steps_of, may_end, uses, keys_for, input_for};
 ghost use Rattle.acl_run.specs.Work.{is_behind_keys, is_behind_input, precedes_input};
-ghost use Rattle.acl_run.specs.Work.{keys_limit, input_limit, precedes_output};
+ghost use Rattle.acl_run.specs.Work.{keys_limit, input_limit, precedes_output, precedes_note};
 
+use crate::encode::encode;
 use crate::preview::preview;
-use crate::words::{Request, read_words};
+use crate::request::Request;
+use crate::sample::sample;
+use crate::seal::seal;
+use crate::words::read_words;
 use acl_outcome::Outcome;
 use acl_outside::{Sink, Source, Store};
 use std::alloc::Global;
 
 /// Does what the words ask for. They are those of the command line, without the program's own name.
 ///
-/// `preview RULES` reads a licence body from `keys`, at most 131,072 bytes, and then a document from `input`, at most
-/// 33,554,432 bytes, and writes the authorised view to `out`. It uses neither `store` nor `note`. The rules are refused
-/// before the input is read, and the input before the first byte is written.
-#[tactic(auto, using(crate::proofs::Steps::tops))]
+/// `preview RULES [--query P] [--explain]` reads a licence body from `keys` and then a document from `input`, and writes
+/// to `out` the authorised view, or what the query P selects in it, or where the signs come from. `encode KEYS` reads keys
+/// from `keys` and then a document from `input`, and writes the document's file to `out`, and then its root to `note`.
+/// `seal KEYS` reads keys from `keys` and then a licence body from `input`, and writes the sealed licence to `out`.
+/// `sample N` writes the lines of the sample document with N folders to `out`, and then its numbers to `note`.
+///
+/// Keys and bodies have at most 131,072 bytes, and a document at most 33,554,432. A document that is to be encoded has at
+/// most 256 names, and its dictionary and its tree have together at most 33,554,432 bytes. What is read first is refused
+/// first, and all that is read before the first byte is written. No command uses `store`.
+#[tactic(auto, using(crate::proofs::TopSteps::tops))]
 pub fn run<K: Source, Q: Source, S: Store, W: Sink, N: Sink>(
     alloc: Global,
     words: &[String],
@@ -60,6 +71,11 @@ pub fn run<K: Source, Q: Source, S: Store, W: Sink, N: Sink>(
         (AreAllSettled (W.settled out.new) (W.written out.new)) }
     ensures unwritten { IfSome (words_of (map string_bytes words.now))
         (λ c. OnTrue (precedes_output c (end_of result)) (out.new ≡ out.old)) }
+    ensures note_settled { IfSome (words_of (map string_bytes words.now)) (λ c.
+        OnTrue (uses c Object.note) (WhereDone (end_of result)
+        (AreAllSettled (N.settled note.new) (N.written note.new)))) }
+    ensures unnoted { IfSome (words_of (map string_bytes words.now))
+        (λ c. OnTrue (precedes_note c (end_of result)) (note.new ≡ note.old)) }
 
     // What is read: each source to its end, or one byte past its limit, and the input only behind good keys.
     ensures keys_read { IfSome (words_of (map string_bytes words.now)) (λ c.
@@ -98,7 +114,10 @@ pub fn run<K: Source, Q: Source, S: Store, W: Sink, N: Sink>(
         (λ c. OnFalse (uses c Object.note) (note.new ≡ note.old)) }
 {
     match read_words(words) {
-        Some(Request::Preview) => preview(alloc, keys, input, out),
+        Some(Request::Preview(shown)) => preview(alloc, shown, keys, input, out),
+        Some(Request::Encode) => encode(alloc, keys, input, out, note),
+        Some(Request::Seal) => seal(alloc, keys, input, out),
+        Some(Request::Sample(size)) => sample(alloc, size, out, note),
         None => Outcome::Usage,
     }
 }

@@ -1,145 +1,39 @@
-//! The words of a command line, without the program's own name: which command they ask for, and by which options.
+//! The words of a command line, without the program's own name: which command they ask for.
 
-ghost use Rattle.std.specs.Prelude.{◌≡◌, map, string_bytes};
-ghost use Rattle.std.specs.Option.{option_map};
-ghost use Rattle.acl_run.specs.Request.{command_of, meant_options, meant_reading};
-ghost use Rattle.acl_run.specs.Words.{is_value, with_query, with_explain, with_option, with_word};
-ghost use Rattle.acl_run.specs.Words.{options_at_end, options_of, preview_with, preview_of, words_of};
+ghost use Rattle.std.specs.Prelude.{◌≡◌, ◌≤◌, map, string_bytes, IfSome};
+ghost use Rattle.std.specs.Option.{option_map, option_copied};
+ghost use Rattle.std.specs.Char.{is_ascii_digit};
+ghost use Rattle.std.specs.List.{list_all};
+ghost use Rattle.acl_run.specs.Request.{command_of, meant_options, meant_shown, CanBeMade};
+ghost use Rattle.acl_run.specs.Words.{begins_with_zero, is_numeral, is_sample_size, size_of};
+ghost use Rattle.acl_run.specs.Words.{shown_by, preview_with, preview_of, encode_of, seal_of, sample_of, words_of};
 
-/// What a command line asks for.
-#[derive(Clone, Copy, Debug, PartialEq, Eq)]
-pub enum Request {
-    /// `preview RULES`: the view of the document on the input, under the rules of the file RULES.
-    Preview,
-}
+use crate::options::{Options, read_options};
+use crate::request::{Request, Shown};
 
-/// The options that are given.
-#[derive(Clone, Copy)]
-struct Options<'a> {
-    query: Option<&'a [u8]>,
-    explain: bool,
-}
+// ---- preview
 
-/// What the next word is.
-#[derive(Clone, Copy)]
-enum Awaited {
-    AnOption,
-    Query,
-}
-
-/// What was read of the options so far.
-#[derive(Clone, Copy)]
-struct Reading<'a> {
-    options: Options<'a>,
-    awaited: Awaited,
-}
-
-fn is_a_value(word: &[u8]) -> bool
-    ensures { result ≡ is_value word.now }
+fn shown_under<'a>(query: Option<&'a [u8]>, explain: bool) -> Option<Shown<'a>>
+    ensures { option_map meant_shown result ≡ shown_by (option_copied query.entry) explain }
 {
-    match word {
-        [] => false,
-        [first, ..] => *first != b'-',
+    match (query, explain) {
+        (None, false) => Some(Shown::View),
+        (None, true) => Some(Shown::Explanation),
+        (Some(query), false) => Some(Shown::Answer(query)),
+        (Some(_), true) => None,
     }
 }
 
-fn take_query<'a>(options: Options<'a>, value: &'a [u8]) -> Option<Reading<'a>>
-    ensures { option_map meant_reading result ≡ with_query (meant_options options.entry) value.now }
-{
-    if options.query.is_none() && is_a_value(value) {
-        Some(Reading {
-            options: Options {
-                query: Some(value),
-                ..options
-            },
-            awaited: Awaited::AnOption,
-        })
-    } else {
-        None
-    }
-}
-
-fn take_explain(options: Options<'_>) -> Option<Reading<'_>>
-    ensures { option_map meant_reading result ≡ with_explain (meant_options options.entry) }
-{
-    if options.explain {
-        None
-    } else {
-        Some(Reading {
-            options: Options {
-                explain: true,
-                ..options
-            },
-            awaited: Awaited::AnOption,
-        })
-    }
-}
-
-#[tactic(auto, unfolding(crate::specs::Words::with_option))]
-fn take_option<'a>(options: Options<'a>, word: &'a str) -> Option<Reading<'a>>
-    ensures { option_map meant_reading result ≡ with_option (meant_options options.entry) word.now }
-{
-    match word {
-        "--explain" => take_explain(options),
-        "--query" => Some(Reading {
-            options,
-            awaited: Awaited::Query,
-        }),
-        _ => match word.as_bytes().strip_prefix(b"--query=") {
-            Some(value) => take_query(options, value),
-            None => None,
-        },
-    }
-}
-
-fn take_word<'a>(reading: Reading<'a>, word: &'a str) -> Option<Reading<'a>>
-    ensures { option_map meant_reading result
-        ≡ with_word (meant_reading reading.entry).awaited (meant_reading reading.entry).options word.now }
-{
-    match reading.awaited {
-        Awaited::AnOption => take_option(reading.options, word),
-        Awaited::Query => take_query(reading.options, word.as_bytes()),
-    }
-}
-
-fn end_of_options(reading: Reading<'_>) -> Option<Options<'_>>
-    ensures { option_map meant_options result
-        ≡ options_at_end (meant_reading reading.entry).awaited (meant_reading reading.entry).options }
-{
-    match reading.awaited {
-        Awaited::AnOption => Some(reading.options),
-        Awaited::Query => None,
-    }
-}
-
-#[tactic(auto, unfolding(crate::specs::Words::options_of))]
-fn read_options(words: &[String]) -> Option<Options<'_>>
-    ensures { option_map meant_options result ≡ options_of (map string_bytes words.now) }
-{
-    let mut reading = Reading {
-        options: Options {
-            query: None,
-            explain: false,
-        },
-        awaited: Awaited::AnOption,
-    };
-    for word in words {
-        reading = take_word(reading, word.as_str())?;
-    }
-    end_of_options(reading)
-}
-
-fn preview_request(options: Options<'_>) -> Option<Request>
+fn preview_request(options: Options<'_>) -> Option<Request<'_>>
     ensures { option_map command_of result ≡ preview_with (meant_options options.entry) }
 {
-    if options.query.is_none() && !options.explain {
-        Some(Request::Preview)
-    } else {
-        None
+    match shown_under(options.query, options.explain) {
+        Some(shown) => Some(Request::Preview(shown)),
+        None => None,
     }
 }
 
-fn read_preview(words: &[String]) -> Option<Request>
+fn read_preview(words: &[String]) -> Option<Request<'_>>
     ensures { option_map command_of result ≡ preview_of (map string_bytes words.now) }
 {
     let [_rules, options @ ..] = words else {
@@ -151,18 +45,98 @@ fn read_preview(words: &[String]) -> Option<Request>
     }
 }
 
+// ---- encode
+
+fn read_encode(words: &[String]) -> Option<Request<'_>>
+    ensures { option_map command_of result ≡ encode_of (map string_bytes words.now) }
+{
+    match words {
+        [_keys] => Some(Request::Encode),
+        _ => None,
+    }
+}
+
+// ---- seal
+
+fn read_seal(words: &[String]) -> Option<Request<'_>>
+    ensures { option_map command_of result ≡ seal_of (map string_bytes words.now) }
+{
+    match words {
+        [_keys] => Some(Request::Seal),
+        _ => None,
+    }
+}
+
+// ---- sample
+
+fn has_leading_zero(word: &[u8]) -> bool
+    ensures { result ≡ begins_with_zero word.now }
+{
+    matches!(word, [b'0', ..])
+}
+
+fn are_all_digits(word: &[u8]) -> bool
+    ensures { result ≡ list_all is_ascii_digit word.now }
+{
+    word.iter().all(|byte| byte.is_ascii_digit())
+}
+
+fn is_a_numeral(word: &[u8]) -> bool
+    ensures { result ≡ is_numeral word.now }
+{
+    !word.is_empty() && word.len() <= 6 && are_all_digits(word) && !has_leading_zero(word)
+}
+
+fn is_a_size(size: u32) -> bool
+    ensures { result ≡ is_sample_size size }
+{
+    (1..=20_000).contains(&size)
+}
+
+/// How many folders a word asks for.
+#[tactic(auto, unfolding(crate::specs::Words::size_of), using(crate::proofs::Sizes::sizes))]
+fn read_size(word: &str) -> Option<u32>
+    ensures exact { result ≡ size_of word.now }
+    ensures range { IfSome result (λ size. (1 ≤ size) × (size ≤ 20000)) }
+{
+    if !is_a_numeral(word.as_bytes()) {
+        return None;
+    }
+    match word.parse::<u32>() {
+        Ok(size) if is_a_size(size) => Some(size),
+        Ok(_) => None,
+        Err(_) => None,
+    }
+}
+
+fn read_sample(words: &[String]) -> Option<Request<'_>>
+    ensures exact { option_map command_of result ≡ sample_of (map string_bytes words.now) }
+    ensures can_be_made { IfSome result CanBeMade }
+{
+    let [size] = words else {
+        return None;
+    };
+    match read_size(size.as_str()) {
+        Some(size) => Some(Request::Sample(size)),
+        None => None,
+    }
+}
+
+// ---- all commands
+
 /// The command that the words ask for. No other words are a command line.
-pub fn read_words(words: &[String]) -> Option<Request>
-    ensures { option_map command_of result ≡ words_of (map string_bytes words.now) }
+pub fn read_words(words: &[String]) -> Option<Request<'_>>
+    ensures exact { option_map command_of result ≡ words_of (map string_bytes words.now) }
+    ensures can_be_made { IfSome result CanBeMade }
 {
     let [name, rest @ ..] = words else {
         return None;
     };
     match name.as_str() {
         "preview" => read_preview(rest),
+        "encode" => read_encode(rest),
+        "seal" => read_seal(rest),
+        "sample" => read_sample(rest),
         _ => None,
     }
 }
-
-#[cfg(test)]
-mod tests;

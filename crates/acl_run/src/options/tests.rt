@@ -1,4 +1,4 @@
-//! The options, which no command takes yet: what is read of each form.
+//! The options: what is read of each form.
 
 use super::*;
 use std::alloc::Global;

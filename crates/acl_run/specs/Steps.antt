@@ -1,0 +1,231 @@
+-- The steps of the work of a command, and how a run may end at each of them. This project's own.
+use Rattle.std.specs.Prelude.{◌≡◌, ℕ, Bool, true, false, not, ◌&&◌, ◌||◌, Option, Some, None, Result, Ok, Err, List, [], ◌∷◌, if◌then◌else◌}
+use Rattle.std.specs.Bool.{OnFalse}
+use Rattle.std.specs.List.{list_any}
+use Rattle.acl_outcome.specs.declared.outcome.Outcome.{Outcome}
+use Rattle.acl_outcome.specs.Ends.{Object, is_same}
+use Rattle.acl_outcome.specs.Ends.{Subject, a_length, a_document, a_seal, a_licence, some_states, a_query, some_keys, a_size, a_file}
+use Rattle.acl_outcome.specs.Ends.{End, done, no_memory, usage, fault, stopped, refused, end_of}
+
+-- ---- steps
+
+-- what is asked of bytes
+pub data Question : Type 0 where
+  are_rules : Question  -- are those of the keys the body of a licence?
+  is_query : Question  -- are those of the query a path within the limits?
+  is_document : Question  -- are those of the input the text of a document?
+  has_file : Question  -- has the document of the input a file?
+  are_keys : Question  -- are those of the keys keys?
+  is_body : Question  -- are those of the input the body of a licence?
+
+-- what the bytes say to a question
+pub data Finding : Type 0 where
+  good : Finding  -- they are what is asked, or nothing was to be asked
+  bad : Outcome → Finding  -- they are not, and this outcome refuses them
+  unknown : Finding  -- a source does not tell its bytes
+
+-- a step of the work
+pub data Step : Type 0 where
+  reads : Object → Step  -- the source is read to its end
+  asks : Question → Finding → Step  -- what was read is asked, and this is found
+  makes : Step  -- what is to be written is made in memory
+  writes : Object → Step  -- the text that is due there is written
+
+-- what a reader's answer finds
+abbrev pub finding_in : {A : Type 0} → Result A Outcome → Finding
+finding_in (Ok a) = good
+finding_in (Err outcome) = bad outcome
+
+-- what a reader finds in the bytes of a source, where the source tells them
+abbrev pub finding_of : {A : Type 0} → (List ℕ → Result A Outcome) → Option (List ℕ) → Finding
+finding_of reader None = unknown
+finding_of reader (Some bytes) = finding_in (reader bytes)
+
+-- ---- how a run may end at a step
+
+-- what the refusals speak of that answer a question with no
+abbrev pub may_refuse : Question → Subject → Bool
+may_refuse are_rules a_length = true
+may_refuse are_rules a_document = false
+may_refuse are_rules a_seal = false
+may_refuse are_rules a_licence = true
+may_refuse are_rules some_states = true
+may_refuse are_rules a_query = false
+may_refuse are_rules some_keys = false
+may_refuse are_rules a_size = false
+may_refuse are_rules a_file = false
+may_refuse is_query a_length = false
+may_refuse is_query a_document = false
+may_refuse is_query a_seal = false
+may_refuse is_query a_licence = false
+may_refuse is_query some_states = true
+may_refuse is_query a_query = true
+may_refuse is_query some_keys = false
+may_refuse is_query a_size = false
+may_refuse is_query a_file = false
+may_refuse is_document a_length = true
+may_refuse is_document a_document = true
+may_refuse is_document a_seal = false
+may_refuse is_document a_licence = false
+may_refuse is_document some_states = false
+may_refuse is_document a_query = false
+may_refuse is_document some_keys = false
+may_refuse is_document a_size = false
+may_refuse is_document a_file = false
+may_refuse has_file a_length = false
+may_refuse has_file a_document = false
+may_refuse has_file a_seal = false
+may_refuse has_file a_licence = false
+may_refuse has_file some_states = false
+may_refuse has_file a_query = false
+may_refuse has_file some_keys = false
+may_refuse has_file a_size = true
+may_refuse has_file a_file = false
+may_refuse are_keys a_length = true
+may_refuse are_keys a_document = false
+may_refuse are_keys a_seal = false
+may_refuse are_keys a_licence = false
+may_refuse are_keys some_states = false
+may_refuse are_keys a_query = false
+may_refuse are_keys some_keys = true
+may_refuse are_keys a_size = false
+may_refuse are_keys a_file = false
+may_refuse is_body a_length = true
+may_refuse is_body a_document = false
+may_refuse is_body a_seal = false
+may_refuse is_body a_licence = true
+may_refuse is_body some_states = true
+may_refuse is_body a_query = false
+may_refuse is_body some_keys = false
+may_refuse is_body a_size = false
+may_refuse is_body a_file = false
+
+-- whether a refusal may follow where this was found
+abbrev pub is_open : Finding → Bool
+is_open good = false
+is_open (bad refusal) = true
+is_open unknown = true
+
+-- Whether a run may end so at this step. A reading, a question and what is made may want memory; no writing does.
+abbrev pub may_end_at : Step → End → Bool
+may_end_at (reads x) done = false
+may_end_at (reads x) no_memory = true
+may_end_at (reads x) usage = false
+may_end_at (reads x) (fault y) = is_same x y
+may_end_at (reads x) stopped = false
+may_end_at (reads x) (refused subject) = false
+may_end_at (asks question finding) done = false
+may_end_at (asks question finding) no_memory = true
+may_end_at (asks question finding) usage = false
+may_end_at (asks question finding) (fault y) = false
+may_end_at (asks question finding) stopped = false
+may_end_at (asks question finding) (refused subject) = may_refuse question subject && is_open finding
+may_end_at makes done = false
+may_end_at makes no_memory = true
+may_end_at makes usage = false
+may_end_at makes (fault y) = false
+may_end_at makes stopped = false
+may_end_at makes (refused subject) = false
+may_end_at (writes x) done = false
+may_end_at (writes x) no_memory = false
+may_end_at (writes x) usage = false
+may_end_at (writes x) (fault y) = is_same x y
+may_end_at (writes x) stopped = false
+may_end_at (writes x) (refused subject) = false
+
+-- whether a run may end so at one of these steps
+abbrev pub may_end_in : List Step → End → Bool
+may_end_in steps e = list_any (λ step. may_end_at step e) steps
+
+-- whether all was done
+abbrev pub is_done : End → Bool
+is_done done = true
+is_done no_memory = false
+is_done usage = false
+is_done (fault x) = false
+is_done stopped = false
+is_done (refused subject) = false
+
+-- whether a run may end so in these steps, or behind the last of them
+abbrev pub may_end_from : List Step → End → Bool
+may_end_from steps e = is_done e || may_end_in steps e
+
+-- ---- where among steps an end stands
+
+-- The step reads this object.
+abbrev pub is_reading_of : Object → Step → Bool
+is_reading_of x (reads y) = is_same x y
+is_reading_of x (asks question finding) = false
+is_reading_of x makes = false
+is_reading_of x (writes y) = false
+
+-- The step writes to this object.
+abbrev pub is_writing_to : Object → Step → Bool
+is_writing_to x (reads y) = false
+is_writing_to x (asks question finding) = false
+is_writing_to x makes = false
+is_writing_to x (writes y) = is_same x y
+
+-- whether a run ends so before the first step that passes the test, and never at it or behind it
+abbrev pub is_before : (Step → Bool) → List Step → End → Bool
+is_before test [] e = true
+is_before test (step ∷ steps) e = if test step then not (may_end_from (step ∷ steps) e) else is_before test steps e
+
+-- whether a run ends so behind the first step that passes the test, and never at it or before it
+abbrev pub is_behind : (Step → Bool) → List Step → End → Bool
+is_behind test [] e = false
+is_behind test (step ∷ steps) e = not (may_end_at step e) && (if test step then may_end_from steps e else is_behind test steps e)
+
+-- ---- how a run that goes by its steps ends
+
+-- The run ended by want of memory, or else the fact holds.
+abbrev pub OrNoMemory : End → Type 0 → Type 0
+OrNoMemory done fact = fact
+OrNoMemory no_memory fact = Unit {0}
+OrNoMemory usage fact = fact
+OrNoMemory (fault x) fact = fact
+OrNoMemory stopped fact = fact
+OrNoMemory (refused subject) fact = fact
+
+-- The run ended by a fault of this object, or else the fact holds.
+abbrev pub OrFaultOf : Object → End → Type 0 → Type 0
+OrFaultOf x done fact = fact
+OrFaultOf x no_memory fact = fact
+OrFaultOf x usage fact = fact
+OrFaultOf x (fault y) fact = OnFalse (is_same x y) fact
+OrFaultOf x stopped fact = fact
+OrFaultOf x (refused subject) fact = fact
+
+-- The run ended by a refusal that may answer this question, or else the fact holds.
+abbrev pub OrRefusalOf : Question → End → Type 0 → Type 0
+OrRefusalOf question done fact = fact
+OrRefusalOf question no_memory fact = fact
+OrRefusalOf question usage fact = fact
+OrRefusalOf question (fault x) fact = fact
+OrRefusalOf question stopped fact = fact
+OrRefusalOf question (refused subject) fact = OnFalse (may_refuse question subject) fact
+
+-- All was done.
+abbrev pub IsDone : End → Type 0
+IsDone done = Unit {0}
+IsDone no_memory = ⊥
+IsDone usage = ⊥
+IsDone (fault x) = ⊥
+IsDone stopped = ⊥
+IsDone (refused subject) = ⊥
+
+-- The run ended at this step, or it passed it and the fact holds of the later ones. Where bytes are refused, each run
+-- that comes so far ends by that refusal; where they are good, none does; and where the source does not tell them, it
+-- may.
+abbrev pub EndsAtOr : Step → Outcome → End → Type 0 → Type 0
+EndsAtOr (reads x) outcome e later = OrNoMemory e (OrFaultOf x e later)
+EndsAtOr (asks question good) outcome e later = OrNoMemory e later
+EndsAtOr (asks question (bad refusal)) outcome e later = OrNoMemory e (outcome ≡ refusal)
+EndsAtOr (asks question unknown) outcome e later = OrNoMemory e (OrRefusalOf question e later)
+EndsAtOr makes outcome e later = OrNoMemory e later
+EndsAtOr (writes x) outcome e later = OrFaultOf x e later
+
+-- The run ended with this outcome at the first of these steps that it did not pass, or it is done.
+abbrev pub Follows : List Step → Outcome → Type 0
+Follows [] outcome = IsDone (end_of outcome)
+Follows (step ∷ steps) outcome = EndsAtOr step outcome (end_of outcome) (Follows steps outcome)
