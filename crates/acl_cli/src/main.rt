@@ -1,14 +1,15 @@
 //! The program `acl`: it hands the named file and the standard streams to the top call, says how the run ended on
-//! standard error, and ends with that outcome's number.
+//! standard error, after a faulty command line with the page of the commands, and ends with that outcome's number.
 #![tactic(auto)]
 
 use acl_outside::{FileStore, ReaderSource, WriterSink};
 use acl_run::{Outcome, outcome_text, run, status};
+use acl_usage::usage;
 use std::alloc::Global;
 use std::env;
 use std::env::Env;
 use std::fs::File;
-use std::io::{BufWriter, ErrorKind, Read, Stdin};
+use std::io::{BufWriter, ErrorKind, Read, Stdin, Write};
 use std::process::ExitCode;
 
 /// The words of the command line without the program's name. Words that aren't text are no command line.
@@ -37,15 +38,19 @@ fn input_given(rt: &HostRuntime) -> Option<Stdin> {
     }
 }
 
+/// The file of the keys or of the rules: the one that the second word names, for every command but `sample`.
+fn named_file(rt: &HostRuntime, words: &[String]) -> Option<File> {
+    match words {
+        [command, name, ..] if command.as_str() != "sample" => File::open(rt, name.as_str()).ok(),
+        _ => None,
+    }
+}
+
 /// The run over the real objects. A file that no word names, or that can't be opened, is handed in as one that isn't there.
 fn run_over_streams(rt: &HostRuntime) -> Result<Outcome, Outcome> {
     let words = words_given(rt)?;
     let mut input = ReaderSource::new(input_given(rt));
-    let named = match words.get(1) {
-        Some(name) => File::open(rt, name.as_str()).ok(),
-        None => None,
-    };
-    let mut keys = ReaderSource::new(named);
+    let mut keys = ReaderSource::new(named_file(rt, words.as_slice()));
     let mut store = FileStore::new(None);
     let Ok(output) = BufWriter::new(rt.alloc(), rt.stdout()) else {
         return Err(Outcome::NoMemory);
@@ -63,6 +68,13 @@ fn run_over_streams(rt: &HostRuntime) -> Result<Outcome, Outcome> {
     ))
 }
 
+/// Writes the page of the commands to standard error. Where there is no memory for it, it is left out.
+fn write_usage(rt: &HostRuntime) {
+    if let Ok(page) = usage(rt.alloc()) {
+        let _ = rt.stderr().write_all(page.as_bytes());
+    }
+}
+
 fn main(rt: HostRuntime) -> ExitCode {
     let outcome = match run_over_streams(&rt) {
         Ok(outcome) => outcome,
@@ -70,5 +82,8 @@ fn main(rt: HostRuntime) -> ExitCode {
     };
     let mut errors = WriterSink::new(rt.stderr());
     let _ = outcome_text(&outcome, &mut errors);
+    if outcome == Outcome::Usage {
+        write_usage(&rt);
+    }
     ExitCode::from(status(&outcome))
 }
