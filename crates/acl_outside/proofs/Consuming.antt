@@ -21,7 +21,7 @@ Consumes-kept (Some al) (Some bl) None xs zs first kept same = absurd kept
 Consumes-kept (Some al) (Some bl) (Some cl) xs zs first kept same = rw (first, kept, same)
 
 -- the bytes at the front, after a part behind them was overwritten
-take-behind : (room part : List ℕ) (at n : ℕ) → at ≤ length room → n ≤ length part
+pub take-behind : (room part : List ℕ) (at n : ℕ) → at ≤ length room → n ≤ length part
     → take (at + n) (put_mid at (length room - at) room part) ≡ take at room ++ take n part
 take-behind room part at n within fits =
     let front : length (take at room) ≡ at = length-take-le at room within in

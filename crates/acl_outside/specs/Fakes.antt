@@ -1,5 +1,7 @@
--- What a caller sees of the sources and sinks in memory. This project's own.
-use Rattle.std.specs.Prelude.{ℕ, List}
+-- What a caller sees of the sources, sinks and stores in memory. This project's own.
+use Rattle.std.specs.Prelude.{ℕ, ◌+◌, ◌<◌, ◌≤◌, List, length, map}
+use Rattle.std.specs.List.{concat}
+use Rattle.acl_outside.specs.Outside.{StoreRead}
 
 -- a source in memory: the bytes to come, the most that a read gives, the numbers of the reads that
 -- fail, the number of the next read, from 0, and how many have failed
@@ -21,3 +23,30 @@ pub record Tray : Type 0 where
   pub missed : ℕ
   pub settled : List ℕ
   pub faults : ℕ
+
+-- a store in memory: the bytes held, the numbers of the reads that fail, the number of the next read,
+-- from 0, and how many have failed
+pub record Shelf : Type 0 where
+  pub holds : List ℕ
+  pub fails : List ℕ
+  pub calls : ℕ
+  pub faults : ℕ
+
+-- a store that notes the good reads of another one: that store, the reads noted, for how many reads
+-- and for how many of their bytes it has room in all, and how many reads have failed
+pub record Recording (Inner : Type 0) : Type 0 where
+  pub inner : Inner
+  pub reads : List StoreRead
+  pub read_room : ℕ
+  pub byte_room : ℕ
+  pub faults : ℕ
+
+-- the bytes that the reads gave, one after the other
+abbrev pub bytes_of : List StoreRead → List ℕ
+bytes_of reads = concat (map (λ read. read.bytes) reads)
+
+-- there is room to note one more read, and as many bytes as it asks for
+abbrev pub HasRoom : {Inner : Type 0} → Recording Inner → ℕ → Type 0
+HasRoom recording asked =
+    (length recording.reads < recording.read_room)
+    × (length (bytes_of recording.reads) + asked ≤ recording.byte_room)

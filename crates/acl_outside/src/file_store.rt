@@ -4,11 +4,10 @@ ghost use Rattle.std.specs.Io.{ReadsAtMost};
 ghost use Rattle.acl_outside.specs.Adapters.{unknown_bytes, unknown_reads};
 ghost use Rattle.acl_outside.specs.Outside.{Rose, NotFallen, Serves, KeepsServed};
 
+use crate::positioned_read::read_full_at;
 use crate::{Failed, Store};
 use std::fs::File;
-use std::io::ErrorKind;
 use std::marker::Model;
-use std::os::unix::fs::FileExt;
 
 /// A file, or none where it could not be opened: then each read fails. It tells nothing of its bytes.
 #[derive(Drop)]
@@ -58,7 +57,7 @@ impl Store for FileStore {
         ensures one_fault { OnErr result
             (self.new.faults ≡ min (self.old.faults + 1) (2 ^ 64 - 1)) }
     {
-        if let Some(file) = &self.inner {
+        if let Some(file) = &mut self.inner {
             if let Ok(count) = read_full_at(file, at, into) {
                 return Ok(count);
             }
@@ -66,25 +65,4 @@ impl Store for FileStore {
         self.faults = self.faults.saturating_add(1);
         Err(Failed)
     }
-}
-
-// Reads until `into` is full, the file is at its end, or it fails. A read that a signal interrupts is
-// tried again. No file has a byte past the last `i64`, so nothing is asked for there.
-fn read_full_at(file: &File, at: u64, into: &mut [u8]) -> Result<usize, Failed>
-    ensures within { ReadsAtMost result into.new }
-{
-    let mut filled = 0;
-    for _ in 0..u64::MAX {
-        let place = at.saturating_add(filled as u64);
-        if filled == into.len() || i64::try_from(place).is_err() {
-            return Ok(filled);
-        }
-        match file.read_at(&mut into[filled..], place) {
-            Ok(0) => return Ok(filled),
-            Ok(count) => filled += count,
-            Err(error) if error.kind() == ErrorKind::Interrupted => {}
-            Err(_) => return Err(Failed),
-        }
-    }
-    Err(Failed)
 }

@@ -1,13 +1,15 @@
 //! A source over a reader of the standard library. It adds a count to each error, and loops over short
 //! reads.
-ghost use Rattle.std.specs.Prelude.{◌≡◌, ◌+◌, ◌-◌, ◌^◌, ◌<◌, is_some, min, length, take, not, IsTrue, IfOk, OnOk, OnErr, IsErr};
+ghost use Rattle.std.specs.Prelude.{◌≡◌, ℕ, ◌+◌, ◌-◌, ◌^◌, ◌<◌, Option, List, is_some, min, length, take, not, IsTrue, IfOk, OnOk, OnErr, IsErr};
 ghost use Rattle.std.specs.Option.{option_and_then};
 ghost use Rattle.std.specs.Io.{ReadsAtMost};
-ghost use Rattle.std.specs.Io.KnownBytes.{Consumes, IsAtEnd, Keeps};
+ghost use Rattle.std.specs.Io.KnownBytes.{Consumes, ReadConsumes, IsAtEnd, Keeps};
 ghost use Rattle.acl_outside.specs.Adapters.{unknown_bytes};
 ghost use Rattle.acl_outside.specs.Outside.{Rose, NotFallen};
+ghost use Rattle.acl_outside.specs.Tries.{Tries, unknown_tries, CountsTry, NoneFailed, OneFailed};
 
 use crate::{Failed, Source};
+use std::io;
 use std::io::{ErrorKind, Read};
 use std::marker::Model;
 
@@ -77,21 +79,47 @@ impl<R: Read> Source for ReaderSource<R> {
     }
 }
 
-// Reads until `into` is full, the reader is at its end, or it fails. A read that a signal interrupts
-// is tried again.
-fn read_full<R: Read>(reader: &mut R, into: &mut [u8]) -> Result<usize, Failed>
+// What a source reads its bytes from, some of them a call.
+trait SomeRead {
+    /// The bytes to come, where it tells them.
+    ghost to_come: { Self → Option (List ℕ) };
+
+    /// The reads so far, where it tells them.
+    ghost tries: { Self → Option Tries };
+
+    fn read_some(&mut self, into: &mut [u8]) -> io::Result<usize>
+        ensures within { ReadsAtMost result into.new }
+        ensures bytes { ReadConsumes (to_come self.old) (to_come self.new) result into.new }
+        ensures counted { CountsTry (tries self.old) (tries self.new) result };
+}
+
+impl<R: Read> SomeRead for R {
+    ghost to_come = { R.remaining };
+
+    ghost tries = { λ _. unknown_tries };
+
+    fn read_some(&mut self, into: &mut [u8]) -> io::Result<usize> {
+        self.read(into)
+    }
+}
+
+// Reads until `into` is full, the reader is at its end, or a read fails. One that a signal cuts off
+// is made again.
+fn read_full<R: SomeRead>(reader: &mut R, into: &mut [u8]) -> Result<usize, Failed>
     ensures within { ReadsAtMost result into.new }
     ensures consumed { IfOk result
-        (λ n. Consumes (R.remaining reader.old) (R.remaining reader.new) (take n into.new)) }
+        (λ n. Consumes (R.to_come reader.old) (R.to_come reader.new) (take n into.new)) }
     ensures short_at_end { IfOk result
-        (λ n. n < length into.old → IsAtEnd (R.remaining reader.new)) }
+        (λ n. n < length into.old → IsAtEnd (R.to_come reader.new)) }
+    ensures none_failed { OnOk result (NoneFailed (R.tries reader.old) (R.tries reader.new)) }
+    ensures one_failed { OnErr result (OneFailed (R.tries reader.old) (R.tries reader.new)) }
 {
     let mut filled = 0;
-    for _ in 0..u64::MAX {
+    for _turn in 0..u64::MAX {
         if filled == into.len() {
             return Ok(filled);
         }
-        match reader.read(&mut into[filled..]) {
+        match reader.read_some(&mut into[filled..]) {
             Ok(0) => return Ok(filled),
             Ok(count) => filled += count,
             Err(error) if error.kind() == ErrorKind::Interrupted => {}

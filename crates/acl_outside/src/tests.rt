@@ -4,10 +4,12 @@
 use super::*;
 use std::alloc::Global;
 use std::fs::File;
+use std::io;
 use std::io::{Error, ErrorKind, Read, Write};
 use std::process::Abort;
 use std::test::Fail;
-use std::{fs, io};
+
+mod stores;
 
 // Reads into a room of three bytes, and compares the answer and the bytes given.
 fn expect_read<Q: Source>(
@@ -102,35 +104,6 @@ fn pieces_are_written_up_to_the_first_that_fails(rt: HostRuntime) -> Result<(), 
         assert_eq!(rt; sink.written(), written, "{what}");
         assert_eq!(rt; finish(&mut sink), Ok(()), "{what}");
     }
-    Ok(())
-}
-
-fn expect_read_at<S: Store>(rt: &impl Abort, store: &mut S, at: u64, want: &[u8]) {
-    let mut room = [0u8; 3];
-    assert_eq!(rt; store.read_at(at, &mut room), Ok(want.len()), "at {at}");
-    assert!(rt; want.len() <= 3);
-    assert_eq!(rt; &room[..want.len()], want, "at {at}");
-}
-
-#[test]
-fn a_store_gives_the_part_at_a_place_cut_at_its_end(rt: HostRuntime) -> Result<(), Fail> {
-    let path = "acl_outside_store";
-    fs::write(&rt, path, b"abcde")?;
-    let mut in_memory = SureStore::new(Vec::from_slice(rt.alloc(), b"abcde")?);
-    let mut in_file = FileStore::new(Some(File::open(&rt, path)?));
-    let places: [(u64, &[u8]); 6] = [
-        (0, b"abc"),
-        (1, b"bcd"),
-        (3, b"de"),
-        (5, b""),
-        (6, b""),
-        (u64::MAX, b""),
-    ];
-    for (at, want) in places {
-        expect_read_at(&rt, &mut in_memory, at, want);
-        expect_read_at(&rt, &mut in_file, at, want);
-    }
-    fs::remove_file(&rt, path)?;
     Ok(())
 }
 
