@@ -1,21 +1,23 @@
 -- One level more of an opening: what its reads say then.
-use Rattle.std.proofs.Common.{◌≡◌, ℕ, zero, suc, ◌+◌, ◌*◌, ◌≤◌, Bool, true, false, List, [], ◌∷◌, ◌++◌, length, map, refl, sym, ap, ◌∙◌, subst, arith, add-one, length-append, append_assoc, append-nil, true≢false}
-use Rattle.std.specs.Prelude.{Option, Some, None, is_some, option_map, option_and_then, if◌then◌else◌}
+use Rattle.std.proofs.Common.{◌≡◌, ℕ, zero, suc, ◌+◌, ◌*◌, ◌<◌, ◌≤◌, Bool, true, false, ◌&&◌, List, [], ◌∷◌, ◌++◌, length, map, refl, sym, ap, ◌∙◌, subst, inl, inr, arith, add-one, length-append, append_assoc, append-nil, true≢false}
+use Rattle.std.specs.Prelude.{Option, Some, None, is_some, nat_eq, option_map, option_and_then, if◌then◌else◌}
 use Rattle.std.specs.List.{list_all, slice_get}
+use Rattle.std.proofs.lemmas.Bool.Decides.{eqb_tells}
 use Rattle.sha2.specs.Sha256.{sha256}
 use Rattle.sha2.proofs.Facts256.{length-sha256}
 use Rattle.acl_outside.specs.Outside.{StoreRead}
 use Rattle.acl_outside.specs.declared.read_fault.ReadFault.{ReadFault}
 use Rattle.acl_outside.specs.declared.read_fault.ReadFault.TheVariants.{StoreFault, StoreShort}
-use Rattle.merkle_chunks.specs.Strings.{absent_child}
+use Rattle.merkle_chunks.specs.Strings.{absent_child, leaf_string}
 use Rattle.fragment_open.specs.Openings.{Opening, index_of}
 use Rattle.fragment_open.specs.Asks.{ask_of, has_sibling, index_at, sibling_ask, sibling_asks, siblings_below}
 use Rattle.fragment_open.specs.Served.{whole}
-use Rattle.fragment_open.specs.Hashed.{parent_string, sibling_digest, string_at}
+use Rattle.fragment_open.specs.Hashed.{digest_at, parent_string, sibling_digest, string_at}
 use Rattle.fragment_open.specs.Told.{IsCut, Told, is_whole}
 use Rattle.fragment_open.specs.Climbing.{Climbs, Ends, IsAsked, IsBegun, IsClimbed, IsEnded, IsSibling, LacksSibling}
 use Rattle.fragment_open.proofs.ClashLemmas.{both_true, and_true}
-use Rattle.fragment_open.proofs.PathLemmas.{chained, mapped, string_at-above}
+use Rattle.fragment_open.proofs.TreeLemmas.{if_true, if_false}
+use Rattle.fragment_open.proofs.PathLemmas.{chained, got, mapped, string_at-above, string_at-below}
 
 -- ---- what is told
 
@@ -80,6 +82,11 @@ length-sibling_asks n i (suc l) =
 pub asked-index : (n i l : ℕ) (o : Opening) (reads : List StoreRead) → IsAsked n i l o reads → index_of o ≡ i
 asked-index n i l o reads a = let at : o.leaf.at ≡ 64 + 256 * i = ap (λ (p : ℕ × ℕ). p.0) a.leaf in omega (arith, at)
 
+-- an opening has the siblings below its level
+siblings_taken : (n i l : ℕ) (o : Opening) (reads : List StoreRead) → IsAsked n i l o reads → siblings_below n (index_of o) l ≡ length o.siblings
+siblings_taken n i l o reads a =
+    ap (λ (k : ℕ). siblings_below n k l) (asked-index n i l o reads a) ∙ sym (sym (length-map_ask o.siblings) ∙ ap length a.siblings ∙ length-sibling_asks n i l)
+
 sibling_digest-more : (n : ℕ) (o : Opening) (more : List StoreRead) (l : ℕ) (s : List ℕ) → sibling_digest n o l ≡ Some s → sibling_digest n (with_more o more) l ≡ Some s
 sibling_digest-more n o more l s h =
     elim (has_sibling n (index_of o) l) as (λ (v : Bool). (if v then option_and_then (whole 32) (slice_get o.siblings (siblings_below n (index_of o) l)) else Some absent_child) ≡ Some s
@@ -141,22 +148,143 @@ cut-behind to reads more are c = record {
   place = c.place;
 }
 
+-- ---- reads that came short
+
+pub less-neq : (a b : ℕ) → a < b → nat_eq a b ≡ false
+less-neq a b less =
+    elim (eqb_tells a b) [
+      | inl p ↦ absurd (omega (arith, p.1, less))
+      | inr p ↦ p.0
+    ]
+
+pub and_false : (v : Bool) → (v && false) ≡ false
+and_false true = refl
+and_false false = refl
+
+and_one : (v : Bool) → (v && true) ≡ v
+and_one true = refl
+and_one false = refl
+
+-- reads that were cut did not all come whole
+pub cut-not_whole : (to : ℕ) (reads : List StoreRead) → IsCut to reads → list_all is_whole reads ≡ false
+cut-not_whole to reads c = ap (list_all is_whole) c.all ∙ behind c.before
+  where
+    behind : (before : List StoreRead) → list_all is_whole (before ++ (c.last ∷ [])) ≡ false
+    behind [] = ap (λ (v : Bool). v && true) (less-neq (length c.last.bytes) c.last.asked c.short)
+    behind (x ∷ before) = ap (λ (v : Bool). is_whole x && v) (behind before) ∙ and_false (is_whole x)
+
+-- a lone read that came short gave no bytes of its size
+pub one_short : (size : ℕ) (r : StoreRead) → r.asked ≡ size → list_all is_whole (r ∷ []) ≡ false → whole size r ≡ None
+one_short size r asked short =
+    if_false (nat_eq (length r.bytes) size) (Some r.bytes) None
+    (ap (λ (n : ℕ). nat_eq (length r.bytes) n) (sym asked) ∙ sym (and_one (is_whole r)) ∙ short)
+
+abbrev pub first_asked : List (ℕ × ℕ) → ℕ
+first_asked [] = 0
+first_asked (a ∷ asks) = a.1
+
+-- a sibling's read that came short is of one that the table has, and gave no digest
+cut_sibling : (n i l : ℕ) (more : List StoreRead) → map ask_of more ≡ sibling_ask n i l → list_all is_whole more ≡ false
+    → (has_sibling n i l ≡ true) × (option_and_then (whole 32) (slice_get more 0) ≡ None)
+cut_sibling n i l more same short =
+    elim (has_sibling n i l) as (λ (v : Bool). (place : ℕ) → map ask_of more ≡ (if v then (place, 32) ∷ [] else []) → (v ≡ true) × (option_and_then (whole 32) (slice_get more 0) ≡ None)) [
+      | true ↦ λ place asked. (refl, lone more short (ap first_asked asked) (sym (length-map_ask more) ∙ ap length asked))
+      | false ↦ λ place asked. absurd (some more short (sym (length-map_ask more) ∙ ap length asked))
+    ] _ same
+  where
+    some : (reads : List StoreRead) → list_all is_whole reads ≡ false → length reads ≡ 0 → ⊥
+    some [] short none = true≢false short
+    some (r ∷ reads) short none = omega (arith, none)
+
+    lone : (reads : List StoreRead) → list_all is_whole reads ≡ false → first_asked (map ask_of reads) ≡ 32 → length reads ≡ 1 → option_and_then (whole 32) (slice_get reads 0) ≡ None
+    lone [] short asked one = refl
+    lone (r ∷ []) short asked one = one_short 32 r asked short
+    lone (r ∷ q ∷ reads) short asked one = absurd (omega (arith, one))
+
+slice_get-end : {X : Type 0} (xs : List X) (k : ℕ) → k ≡ length xs → slice_get xs k ≡ None
+slice_get-end [] k h = refl
+slice_get-end (x ∷ xs) zero h = absurd (omega (arith, h))
+slice_get-end (x ∷ xs) (suc k) h = slice_get-end xs k (omega (arith, h))
+
+-- ---- openings that give no digest
+
+none_unless : {A : Type 0} (o : Option A) → ((x : A) → o ≡ Some x → ⊥) → o ≡ None
+none_unless None no'where = refl
+none_unless (Some x) no'where = absurd (no'where x refl)
+
+-- without the fragment's bytes there is none
+pub lacks_leaf : (n : ℕ) (o : Opening) → nat_eq (length o.leaf.bytes) 256 ≡ false → digest_at sha256 n o 0 ≡ None
+unfolding string_at
+lacks_leaf n o short =
+    ap (λ (b : Option (List ℕ)). option_map sha256 (option_map (leaf_string (index_of o)) b)) (if_false (nat_eq (length o.leaf.bytes) 256) (Some o.leaf.bytes) None short)
+
+-- without a sibling that the table has there is none on the level above
+lacks_above : (n : ℕ) (o : Opening) (l : ℕ) → has_sibling n (index_of o) l ≡ true → option_and_then (whole 32) (slice_get o.siblings (siblings_below n (index_of o) l)) ≡ None
+    → digest_at sha256 n o (suc l) ≡ None
+lacks_above n o l has none =
+    none_unless (digest_at sha256 n o (suc l)) (λ d there.
+    let x = mapped sha256 (string_at sha256 n o (suc l)) d there in
+    let parts = string_at-above sha256 length-sha256 n o l x.0 x.1 in
+    let absent : sibling_digest n o l ≡ None =
+    if_true (has_sibling n (index_of o) l) (option_and_then (whole 32) (slice_get o.siblings (siblings_below n (index_of o) l))) (Some absent_child) has ∙ none in
+    true≢false (sym (ap is_some (sym absent ∙ parts.3))))
+
+-- and where there is none on a level, there is none higher
+pub lacks_higher : (n : ℕ) (o : Opening) (low high : ℕ) → low ≤ high → digest_at sha256 n o low ≡ None → digest_at sha256 n o high ≡ None
+lacks_higher n o low high le none =
+    none_unless (digest_at sha256 n o high) (λ d there.
+    let x = mapped sha256 (string_at sha256 n o high) d there in
+    let y = got (string_at sha256 n o low) (string_at-below sha256 length-sha256 n o high low le (ap is_some x.1)) in
+    true≢false (sym (ap is_some (sym none ∙ ap (option_map sha256) y.1))))
+
 -- without the sibling the opening ends
 pub ends_here : (n i l : ℕ) (d : List ℕ) (fault : ReadFault) (more : List StoreRead) → LacksSibling n i l fault more → Ends n i l d (suc l) fault more
 ends_here n i l d (StoreShort to) more h reads c =
-    (record { opening = with_more c.opening more; level = suc l; low = omega arith; asked = more_asked n i l c.opening reads more c.asked h.0 }, cut-behind to reads more c.all_whole h.1)
+    let o : Opening = c.opening in
+    let cut = cut_sibling n i l more h.0 (cut-not_whole to more h.1) in
+    let index : index_of o ≡ i = asked-index n i l o reads c.asked in
+    let behind : slice_get (o.siblings ++ more) (siblings_below n (index_of o) l) ≡ slice_get more 0 =
+    slice_get-behind o.siblings more (siblings_below n (index_of o) l) (siblings_taken n i l o reads c.asked) in (
+      record {
+        opening = with_more o more;
+        level = suc l;
+        low = omega arith;
+        asked = more_asked n i l o reads more c.asked h.0;
+        lacks = lacks_above n (with_more o more) l (ap (λ (k : ℕ). has_sibling n k l) index ∙ cut.0) (ap (option_and_then (whole 32)) behind ∙ cut.1);
+      },
+      cut-behind to reads more c.all_whole h.1,
+    )
 ends_here n i l d StoreFault more h reads c =
-    let same : reads ++ more ≡ reads = ap (λ (m : List StoreRead). reads ++ m) h ∙ append-nil reads in (
-      let P : List StoreRead → Type 0 = λ r. IsBegun n i (suc l) r in subst P (sym same) (record { opening = c.opening; level = l; low = omega arith; asked = c.asked }),
+    let o : Opening = c.opening in
+    let same : reads ++ more ≡ reads = ap (λ (m : List StoreRead). reads ++ m) h.0 ∙ append-nil reads in
+    let index : index_of o ≡ i = asked-index n i l o reads c.asked in
+    let none : slice_get o.siblings (siblings_below n (index_of o) l) ≡ None = slice_get-end o.siblings (siblings_below n (index_of o) l) (siblings_taken n i l o reads c.asked) in
+    let P : List StoreRead → Type 0 = λ r. IsBegun n i (suc l) r in (
+      subst P (sym same) (record {
+        opening = o;
+        level = l;
+        low = omega arith;
+        asked = c.asked;
+        lacks = lacks_above n o l (ap (λ (k : ℕ). has_sibling n k l) index ∙ h.1) (ap (option_and_then (whole 32)) none);
+      }),
       ap (list_all is_whole) same ∙ c.all_whole,
     )
 ends_here n i l d _ more h reads c = absurd h
 
 -- ---- several levels
 
+begun_higher : (n i low high : ℕ) (reads : List StoreRead) → low ≤ high → IsBegun n i low reads → IsBegun n i high reads
+begun_higher n i low high reads le b = record {
+  opening = b.opening;
+  level = b.level;
+  low = omega (arith, le, b.low);
+  asked = b.asked;
+  lacks = lacks_higher n b.opening low high le b.lacks;
+}
+
 pub ends_higher : (n i low high : ℕ) (fault : ReadFault) (reads : List StoreRead) → low ≤ high → IsEnded n i low fault reads → IsEnded n i high fault reads
-ends_higher n i low high (StoreShort to) reads le h = (record { opening = h.0.opening; level = h.0.level; low = omega (arith, le, h.0.low); asked = h.0.asked }, h.1)
-ends_higher n i low high StoreFault reads le h = (record { opening = h.0.opening; level = h.0.level; low = omega (arith, le, h.0.low); asked = h.0.asked }, h.1)
+ends_higher n i low high (StoreShort to) reads le h = (begun_higher n i low high reads le h.0, h.1)
+ends_higher n i low high StoreFault reads le h = (begun_higher n i low high reads le h.0, h.1)
 ends_higher n i low high _ reads le h = absurd h
 
 pub Climbs-none : (n i l : ℕ) (d : List ℕ) → Climbs n i l d l d []

@@ -1,5 +1,5 @@
 -- One opening more: what an opener's reads say then.
-use Rattle.std.proofs.Common.{◌≡◌, ◌≢◌, ℕ, zero, suc, ◌/◌, ◌<◌, ◌≤◌, Bool, true, false, ◌&&◌, ◌||◌, List, [], ◌∷◌, ◌++◌, length, take, map, get_or, refl, sym, ap, ◌∙◌, subst, inl, inr, arith, append_assoc, append-nil}
+use Rattle.std.proofs.Common.{◌≡◌, ◌≢◌, ℕ, zero, suc, ◌/◌, ◌<◌, ◌≤◌, Bool, true, false, ◌&&◌, ◌||◌, List, [], ◌∷◌, ◌++◌, length, take, map, get_or, refl, sym, ap, ◌∙◌, subst, ◌⊎◌, inl, inr, arith, append_assoc, append-nil, true≢false}
 use Rattle.std.specs.Prelude.{Result, Ok, Err, MatchResult, IfOk, Option, Some, None, nat_eq, nat_lt, if◌then◌else◌, is_some}
 use Rattle.std.specs.List.{list_all}
 use Rattle.std.specs.Option.{option_map_or}
@@ -31,20 +31,16 @@ use Rattle.fragment_open.specs.Told.{Told, is_whole}
 use Rattle.fragment_open.specs.Climbing.{IsAsked, IsNotOpened, IsOpened}
 use Rattle.fragment_open.specs.Held.{IsOpenedHeld, IsStoreFault, digest_held}
 use Rattle.fragment_open.specs.Starting.{HoldsDocument, IsHead, IsHeadFault, IsHeadOf, IsNotStarted, IsStarted}
-use Rattle.fragment_open.specs.Settled.{AreHeld, IsFetchCause, IsFetched, IsKept, IsKeptOf, IsSettled, Settled, goes_to_chunk, root_by, since, want_by}
+use Rattle.fragment_open.specs.Settled.{AreHeld, FoldAsWanted, IsFetchCause, IsFetched, IsKept, IsKeptOf, IsSettled, Settled, goes_to_chunk, root_by, since, want_by}
 use Rattle.fragment_open.proofs.ClashLemmas.{and_true, both_true}
 use Rattle.fragment_open.proofs.TreeLemmas.{if_true, if_false, index_at-chunk, index_at-lt}
 use Rattle.fragment_open.proofs.KeyLemmas.{either, goal_level-least}
 use Rattle.fragment_open.proofs.DocumentLemmas.{fragment_is}
-use Rattle.fragment_open.proofs.ClimbLemmas.{all_whole-append, asked-index, cut-behind, length-map_ask, map_ask-append}
+use Rattle.fragment_open.proofs.ClimbLemmas.{all_whole-append, and_false, asked-index, cut-behind, length-map_ask, map_ask-append}
 use Rattle.fragment_open.proofs.StartLemmas.{no_openings}
 use Rattle.fragment_open.proofs.SinceLemmas.{since-start, header_served-more, openings-more, top_served-more, two_reads}
 
 -- ---- the aim
-
-and_false : (v : Bool) → (v && false) ≡ false
-and_false true = refl
-and_false false = refl
 
 pub goes-is : (n i : ℕ) (kept : Option Kept) (os : List Opening) → IsKept n kept os → goes_to_chunk (top_level n) i kept ≡ to_chunk n i (map index_of os)
 goes-is n i None [] is = sym (and_false (nat_lt 4 (top_level n)))
@@ -85,6 +81,21 @@ settled-regular h top kept s is = record {
       ∙ ap (λ (o : Option Header). take (length s) (asks_by o (indexes s))) (sym is.header_is);
   within = ap (λ (n : ℕ). list_all (λ index. nat_lt index n) (indexes s)) (count_served h s is.header_is) ∙ good-within (fragment_count h) top (openings s) is.good;
 }
+
+-- without an opening, or after good ones, no refusal stands in the reads
+pub unrefused_without : (reads : List StoreRead) → folded sha256 reads ≡ None → FoldAsWanted reads
+unrefused_without reads none made folds = absurd (true≢false (sym (ap is_some (sym none ∙ folds))))
+
+pub settled-unrefused : (h : Header) (top : List ℕ) (kept : Option Kept) (s : List StoreRead) → IsSettled h top kept s → FoldAsWanted s
+unfolding folded wanted
+settled-unrefused h top kept s is made folds =
+    let n : ℕ = fragment_count h in
+    let count : fragments_served s ≡ n = count_served h s is.header_is in
+    (λ j. wanted_in sha256 (count j) (is.top_is j) (openings s)) ∙ by (openings s) is.good (ap (λ (m : ℕ). folded_in sha256 m (openings s)) (sym count) ∙ folds)
+  where
+    by : (os : List Opening) → AreGood sha256 (fragment_count h) top os → folded_in sha256 (fragment_count h) os ≡ Some made → wanted_in sha256 (fragment_count h) (Some top) os ≡ Some made
+    by [] good there = absurd (true≢false (sym (ap is_some there)))
+    by (o ∷ os) good there = sym good.2 ∙ there
 
 pub sibling_asks-front : (n i low high : ℕ) → low ≤ high → (rest : List (ℕ × ℕ)) × (sibling_asks n i high ≡ sibling_asks n i low ++ rest)
 sibling_asks-front n i low zero le = let same : low ≡ 0 = omega arith in ([], ap (sibling_asks n i) (sym same) ∙ sym (append-nil (sibling_asks n i low)))
@@ -135,6 +146,14 @@ module _ (h : Header) (top : List ℕ) (kept : Option Kept) (s : List StoreRead)
               ∙ ap (list_all (λ k. nat_lt k (fragment_count h))) indexes-more
               ∙ and_true (nat_lt i (fragment_count h)) (list_all (λ k. nat_lt k (fragment_count h)) (indexes s)) (lt-ltb i (fragment_count h) lt) (good-within (fragment_count h) top (openings s) is.good);
         }
+
+    -- where the opening doesn't come to its goal, no refusal stands in the reads
+    unrefused : (goal : ℕ) → goal ≡ goal_level (fragment_count h) i (indexes s) → digest_at sha256 (fragment_count h) o goal ≡ None → FoldAsWanted (s ++ t)
+    unfolding folded
+    unrefused goal at lacks =
+        unrefused_without (s ++ t)
+        ((λ j. folded_in sha256 (count_served h (s ++ t) (header_more t) j) (opened j))
+        ∙ ap (digest_at sha256 (fragment_count h) o) (ap (λ (k : ℕ). goal_level (fragment_count h) k (indexes s)) index ∙ sym at) ∙ lacks)
 
     -- what the newest opening folds to, and what is wanted of it
     folded-more : (goal : ℕ) (digest : List ℕ) → goal ≡ goal_level (fragment_count h) i (indexes s) → digest_at sha256 (fragment_count h) o goal ≡ Some digest
@@ -198,14 +217,25 @@ module _ (h : Header) (top : List ℕ) (kept : Option Kept) (s : List StoreRead)
 
   pub not_opened-ends : (goal : ℕ) (fault : ReadFault) (t : List StoreRead) → goal ≡ (if goes_to_chunk (top_level (fragment_count h)) i kept then 4 else top_level (fragment_count h))
       → IsNotOpened (fragment_count h) i goal fault t → IsRegular (s ++ t) × IsFetchCause i fault (s ++ t)
-  not_opened-ends goal (StoreShort to) t aim f =
-      (begun-regular f.0.level f.0.opening t f.0.asked (omega (arith, f.0.low, goal_is goal aim)), cut-behind to s t is.all_whole f.1)
+  not_opened-ends goal (StoreShort to) t aim f = (
+    begun-regular f.0.level f.0.opening t f.0.asked (omega (arith, f.0.low, goal_is goal aim)),
+    (cut-behind to s t is.all_whole f.1, unrefused f.0.level f.0.opening t f.0.asked goal (goal_is goal aim) f.0.lacks),
+  )
   not_opened-ends goal StoreFault t aim (inl none) =
       let same : s ++ t ≡ s = ap (λ (l : List StoreRead). s ++ l) none ∙ append-nil s in
-      (subst IsRegular (sym same) (settled-regular h top kept s is), ap (list_all is_whole) same ∙ is.all_whole)
-  not_opened-ends goal StoreFault t aim (inr f) =
-      (begun-regular f.0.level f.0.opening t f.0.asked (omega (arith, f.0.low, goal_is goal aim)), all_whole-append s t is.all_whole f.1)
+      (subst IsRegular (sym same) (settled-regular h top kept s is), (ap (list_all is_whole) same ∙ is.all_whole, subst FoldAsWanted (sym same) (settled-unrefused h top kept s is)))
+  not_opened-ends goal StoreFault t aim (inr f) = (
+    begun-regular f.0.level f.0.opening t f.0.asked (omega (arith, f.0.low, goal_is goal aim)),
+    (all_whole-append s t is.all_whole f.1, unrefused f.0.level f.0.opening t f.0.asked goal (goal_is goal aim) f.0.lacks),
+  )
   not_opened-ends goal _ t aim f = absurd f
+
+  -- it opened the fragment, or none
+  pub not_opened-opens : (goal : ℕ) (fault : ReadFault) (t : List StoreRead) → IsNotOpened (fragment_count h) i goal fault t → (indexes (s ++ t) ≡ i ∷ indexes s) ⊎ (indexes (s ++ t) ≡ indexes s)
+  not_opened-opens goal (StoreShort to) t f = inl (indexes-more f.0.level f.0.opening t f.0.asked)
+  not_opened-opens goal StoreFault t (inl none) = inr (ap indexes (ap (λ (l : List StoreRead). s ++ l) none ∙ append-nil s))
+  not_opened-opens goal StoreFault t (inr f) = inl (indexes-more f.0.level f.0.opening t f.0.asked)
+  not_opened-opens goal _ t f = absurd f
 
 -- ---- what was told of a start settles
 

@@ -16,7 +16,7 @@ use Rattle.fragment_open.specs.Climbing.{Climbs, Ends, IsClimbed, IsEnded, IsNot
 use Rattle.fragment_open.proofs.ClashLemmas.{and_true}
 use Rattle.fragment_open.proofs.TreeLemmas.{if_true}
 use Rattle.fragment_open.proofs.PathLemmas.{mapped}
-use Rattle.fragment_open.proofs.ClimbLemmas.{Told-trans, Told-weaker, ends_higher, string_at-more, with_more}
+use Rattle.fragment_open.proofs.ClimbLemmas.{Told-trans, Told-weaker, ends_higher, lacks_higher, lacks_leaf, less-neq, string_at-more, with_more}
 
 -- what is said of numbers and a digest is said of equal ones
 pub moved : (P : ℕ → ℕ → ℕ → List ℕ → Type 0) (n' n i' i l' l : ℕ) (d' d : List ℕ) → n' ≡ n → i' ≡ i → l' ≡ l → d' ≡ d → P n' i' l' d' → P n i l d
@@ -78,7 +78,13 @@ module _ (n i : ℕ) where
   leaf_fails goal place into (StoreShort to) reads at size h =
       let r : StoreRead = record { at = place; asked = length into; bytes = take (to - place) into } in
       let len : length (take (to - place) into) ≡ to - place = length-take-le (to - place) into (omega (arith, h.0, h.1)) in (
-        record { opening = opening_at r; level = 0; low = omega arith; asked = record { all = h.2; leaf = λ j. (at j, size j); siblings = refl } },
+        record {
+          opening = opening_at r;
+          level = 0;
+          low = omega arith;
+          asked = record { all = h.2; leaf = λ j. (at j, size j); siblings = refl };
+          lacks = lacks_higher n (opening_at r) 0 goal (omega arith) (lacks_leaf n (opening_at r) (less-neq (length (take (to - place) into)) 256 (omega (arith, len, size, h.0, h.1))));
+        },
         record { before = []; last = r; all = h.2; whole = refl; short = omega (arith, len, h.0, h.1); place = omega (arith, len, h.1) },
       )
   leaf_fails goal place into StoreFault reads at size h = inl h

@@ -24,7 +24,7 @@ use Rattle.fragment_open.specs.Asks.{ask_of, header_ask, top_ask}
 use Rattle.fragment_open.specs.Served.{IsRegular, asks_by, fragments_served, header_in, header_served, root_served, top_served, whole}
 use Rattle.fragment_open.specs.Told.{GivesWhole, ReadsWhole, Told, is_whole}
 use Rattle.fragment_open.specs.Held.{HoldsFile, IsStoreFault, digest_held}
-use Rattle.fragment_open.specs.Starting.{HoldsDocument, IsHead, IsHeadFault, IsHeadOf, IsHeaderRead, IsNoHeader, IsNoTop, IsNotStarted, IsStarted, IsTopRead}
+use Rattle.fragment_open.specs.Starting.{AreOfStart, HoldsDocument, IsHead, IsHeadFault, IsHeadOf, IsHeaderRead, IsNoHeader, IsNoTop, IsNotStarted, IsStarted, IsTopRead}
 use Rattle.fragment_open.proofs.ClashLemmas.{and_true}
 use Rattle.fragment_open.proofs.TreeLemmas.{digest_in, if_true}
 use Rattle.fragment_open.proofs.HeaderLemmas.{header_in-is, header_in-of}
@@ -143,7 +143,7 @@ header_fails root key BadHeader reads h =
     (regular_start reads None h.1 (h.0 ∙ ap (λ (n : ℕ). take n (header_ask ∷ [])) (sym one)) (omega (arith, one)), h)
 header_fails root key (StoreShort to) reads h =
     let one : length reads ≡ 1 = asked-length reads (header_ask ∷ []) h.0 in
-    (regular_start reads None h.1 (h.0 ∙ ap (λ (n : ℕ). take n (header_ask ∷ [])) (sym one)) (omega (arith, one)), h.2)
+    (regular_start reads None h.1 (h.0 ∙ ap (λ (n : ℕ). take n (header_ask ∷ [])) (sym one)) (omega (arith, one)), (h.2, inl h.0))
 header_fails root key StoreFault reads h =
     let P : List StoreRead → Type 0 = λ r. IsNotStarted root key StoreFault r in
     subst P (sym h) (regular_start [] None refl refl (omega arith), inl refl)
@@ -152,8 +152,13 @@ header_fails root key _ reads h = absurd h
 pub top_fails : (root key : List ℕ) (h : Header) (fault : ReadFault) (t u : List StoreRead) → IsHeaderRead h t → IsNoTop (fragment_count h) fault u → IsNotStarted root key fault (t ++ u)
 top_fails root key h (StoreShort to) t u a b =
     let asked : map ask_of (t ++ u) ≡ header_ask ∷ top_ask (fragment_count h) ∷ [] = map_ask-append t u ∙ (λ i. a.asked i ++ b.0 i) in
-    let two : length (t ++ u) ≡ 2 = asked-length (t ++ u) (header_ask ∷ top_ask (fragment_count h) ∷ []) asked in
-    (regular_start (t ++ u) (Some h) (header_served-longer t u h a.served) (asked ∙ ap (λ (n : ℕ). take n (header_ask ∷ top_ask (fragment_count h) ∷ [])) (sym two)) (omega (arith, two)), cut-behind to t u a.all_whole b.1)
+    let two : length (t ++ u) ≡ 2 = asked-length (t ++ u) (header_ask ∷ top_ask (fragment_count h) ∷ []) asked in (
+      regular_start (t ++ u) (Some h) (header_served-longer t u h a.served) (asked ∙ ap (λ (n : ℕ). take n (header_ask ∷ top_ask (fragment_count h) ∷ [])) (sym two)) (omega (arith, two)),
+      (
+        cut-behind to t u a.all_whole b.1,
+        inr (h, record { served = header_served-longer t u h a.served; asked = asked }),
+      ),
+    )
 top_fails root key h StoreFault t u a b =
     let one : length t ≡ 1 = asked-length t (header_ask ∷ []) a.asked in
     let same : t ++ u ≡ t = ap (λ (s : List StoreRead). t ++ s) b ∙ append-nil t in
@@ -170,11 +175,14 @@ regular_started h top reads s =
 pub root_served-is : (h : Header) (top : List ℕ) (reads : List StoreRead) → header_served reads ≡ Some h → top_served reads ≡ Some top → root_served reads ≡ Some (root_string (header_bytes h) top)
 root_served-is h top reads a b = (λ i. option_and_then (λ x. option_map (root_string (header_bytes x)) (b i)) (a i))
 
+of_start : (h : Header) (top : List ℕ) (reads : List StoreRead) → IsStarted h top reads → AreOfStart h reads
+of_start h top reads s = record { served = s.header_is; asked = s.asked }
+
 pub head_fails : (root key : List ℕ) (h : Header) (top : List ℕ) (fault : ReadFault) (reads : List StoreRead) → IsStarted h top reads → IsHeadFault root key h.check (sha256 (root_string (header_bytes h) top)) fault
     → IsNotStarted root key fault reads
 head_fails root key h top (WrongRoot want made) reads s f = (
   regular_started h top reads s,
-  (ap (option_map sha256) (root_served-is h top reads s.header_is s.top_is) ∙ ap (λ (d : List ℕ). Some d) (sym f.1), f.0, f.2),
+  (ap (option_map sha256) (root_served-is h top reads s.header_is s.top_is) ∙ ap (λ (d : List ℕ). Some d) (sym f.1), f.0, f.2, (h, of_start h top reads s), s.all_whole),
 )
 head_fails root key h top (WrongKey want made) reads s f = (
   regular_started h top reads s,
@@ -183,6 +191,8 @@ head_fails root key h top (WrongKey want made) reads s f = (
     ap (option_map (λ (x : Header). x.check)) s.header_is ∙ ap (λ (d : List ℕ). Some d) (sym f.1),
     f.2,
     f.3,
+    (h, of_start h top reads s),
+    s.all_whole,
   ),
 )
 head_fails root key h top _ reads s f = absurd f

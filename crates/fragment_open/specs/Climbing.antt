@@ -1,5 +1,5 @@
 -- How far an opening has come, by the reads that it made. This project's own.
-use Rattle.std.specs.Prelude.{◌≡◌, ◌⊎◌, ℕ, ◌≤◌, true, if◌then◌else◌, Some, option_and_then, List, [], ◌∷◌, ◌++◌, map}
+use Rattle.std.specs.Prelude.{◌≡◌, ◌⊎◌, ℕ, ◌≤◌, true, if◌then◌else◌, Some, None, option_and_then, List, [], ◌∷◌, ◌++◌, map}
 use Rattle.std.specs.List.{list_all, slice_get}
 use Rattle.sha2.specs.Sha256.{sha256}
 use Rattle.acl_outside.specs.Outside.{StoreRead}
@@ -26,12 +26,13 @@ pub record IsClimbed (n i level : ℕ) (digest : List ℕ) (reads : List StoreRe
   pub all_whole : list_all is_whole reads ≡ true
   pub folds : digest_at sha256 n opening level ≡ Some digest
 
--- The reads are the first ones of an opening of fragment i that goes up to a goal.
+-- The reads are the first ones of an opening of fragment i that goes up to a goal, and give no digest there.
 pub record IsBegun (n i goal : ℕ) (reads : List StoreRead) : Type 0 where
   pub opening : Opening
   pub level : ℕ
   pub low : level ≤ goal
   pub asked : IsAsked n i level opening reads
+  pub lacks : digest_at sha256 n opening goal ≡ None
 
 -- An opening that goes up to a goal ended by a fault of the store: a read came short, or all came whole and the store failed.
 abbrev pub IsEnded : ℕ → ℕ → ℕ → ReadFault → List StoreRead → Type 0
@@ -53,10 +54,10 @@ pub record IsSibling (n i level : ℕ) (digest : List ℕ) (reads : List StoreRe
   pub gives : (if has_sibling n i level then option_and_then (whole 32) (slice_get reads 0) else Some absent_child) ≡ Some digest
   pub all_whole : list_all is_whole reads ≡ true
 
--- the reads for a sibling that was not given: one that came short, or none where the store failed
+-- the reads for a sibling that was not given: one that came short, or none, where the table has it and the store failed
 abbrev pub LacksSibling : ℕ → ℕ → ℕ → ReadFault → List StoreRead → Type 0
 LacksSibling n i level (StoreShort to) reads = (map ask_of reads ≡ sibling_ask n i level) × IsCut to reads
-LacksSibling n i level StoreFault reads = reads ≡ []
+LacksSibling n i level StoreFault reads = (reads ≡ []) × (has_sibling n i level ≡ true)
 LacksSibling n i level other reads = ⊥
 
 -- what places a digest in a table: the number of fragments and the fragment are as before, and the level is this one

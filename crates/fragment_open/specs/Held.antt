@@ -3,7 +3,7 @@ use Rattle.std.specs.Prelude.{◌≡◌, ℕ, ◌≤◌, Option, Some, Result, O
 use Rattle.sha2.specs.Sha256.{sha256}
 use Rattle.acl_model.specs.declared.document.Doc.{Doc}
 use Rattle.acl_outside.specs.declared.read_fault.ReadFault.{ReadFault}
-use Rattle.acl_outside.specs.declared.read_fault.ReadFault.TheVariants.{StoreFault}
+use Rattle.acl_outside.specs.declared.read_fault.ReadFault.TheVariants.{BadFragment, BadHeader, BadIndex, StoreFault, StoreShort, WrongKey, WrongRoot}
 use Rattle.merkle_chunks.specs.Strings.{absent_child}
 use Rattle.merkle_chunks.specs.Table.{digests_at, strings_at}
 use Rattle.merkle_chunks.specs.File.{cipher_fragments, file}
@@ -26,6 +26,16 @@ sibling_held d key level index = slice_index_or (digests_at sha256 (cipher_fragm
 abbrev pub IsStoreFault : ReadFault → Type 0
 IsStoreFault StoreFault = Unit {0}
 IsStoreFault other = ⊥
+
+-- Where an answer is another fault than the store's own failure, its count of faults is as it was.
+abbrev pub IsQuietElse : ReadFault → ℕ → ℕ → Type 0
+IsQuietElse BadHeader before after = after ≡ before
+IsQuietElse (WrongRoot want made) before after = after ≡ before
+IsQuietElse (WrongKey want made) before after = after ≡ before
+IsQuietElse (StoreShort at) before after = after ≡ before
+IsQuietElse StoreFault before after = Unit {0}
+IsQuietElse (BadFragment index want made) before after = after ≡ before
+IsQuietElse BadIndex before after = after ≡ before
 
 -- the result is the value, or the store failed
 abbrev pub GivesOrFails : {A T : Type 0} → Result T ReadFault → (T → A) → A → Type 0

@@ -1,5 +1,5 @@
 -- What an opener's reads say between its calls, and how a call of it ends. This project's own.
-use Rattle.std.specs.Prelude.{◌≡◌, ◌≢◌, ℕ, ◌/◌, ◌<◌, Bool, true, false, ◌&&◌, nat_eq, nat_lt, if◌then◌else◌, is_some, Option, Some, None, Result, Ok, Err, List, [], ◌∷◌, map, slice_index_or}
+use Rattle.std.specs.Prelude.{◌≡◌, ◌≢◌, ◌⊎◌, ℕ, ◌/◌, ◌<◌, Bool, true, false, ◌&&◌, nat_eq, nat_lt, if◌then◌else◌, is_some, Option, Some, None, IfSome, Result, Ok, Err, List, [], ◌∷◌, map, slice_index_or}
 use Rattle.std.specs.List.{list_all, list_any}
 use Rattle.sha2.specs.Sha256.{sha256}
 use Rattle.acl_model.specs.Document.{is_document}
@@ -7,7 +7,7 @@ use Rattle.acl_model.specs.Stream.{plain}
 use Rattle.acl_model.specs.declared.document.Doc.{Doc}
 use Rattle.acl_outside.specs.Outside.{StoreRead}
 use Rattle.acl_outside.specs.declared.read_fault.ReadFault.{ReadFault}
-use Rattle.acl_outside.specs.declared.read_fault.ReadFault.TheVariants.{BadFragment, StoreFault, StoreShort}
+use Rattle.acl_outside.specs.declared.read_fault.ReadFault.TheVariants.{BadFragment, BadHeader, BadIndex, StoreFault, StoreShort, WrongKey, WrongRoot}
 use Rattle.merkle_chunks.specs.HeaderBytes.{fragment_count, header_bytes}
 use Rattle.merkle_chunks.specs.File.{HasRoot, file_root}
 use Rattle.merkle_chunks.specs.Strings.{root_string}
@@ -90,20 +90,38 @@ pub record IsFetched (index : ℕ) (header : Header) (top key bytes : List ℕ) 
   pub gives : (d : Doc) → is_document d ≡ true → HasRoot d key (root_by header top) → reads_clash reads d key ≡ false
       → bytes ≡ slice_index_or (fragments (plain d)) index []
 
--- why a fragment was refused, by the reads: one came short; all came whole and the store failed; or all came whole and the newest
--- opening, of this fragment, folds to another digest than the wanted one
+-- no refusal stands in the reads: where the newest opening came to its goal, it folds to what is wanted of it
+abbrev pub FoldAsWanted : List StoreRead → Type 0
+FoldAsWanted reads = (made : List ℕ) → folded sha256 reads ≡ Some made → wanted sha256 reads ≡ Some made
+
+-- why a fragment was refused, by the reads: one came short, or all came whole and the store failed, and neither way the newest
+-- opening folds to another digest than the wanted one; or all came whole and the newest opening, of this fragment, does
 abbrev pub IsFetchCause : ℕ → ReadFault → List StoreRead → Type 0
-IsFetchCause index (StoreShort to) reads = IsCut to reads
-IsFetchCause index StoreFault reads = list_all is_whole reads ≡ true
+IsFetchCause index (StoreShort to) reads = IsCut to reads × FoldAsWanted reads
+IsFetchCause index StoreFault reads = (list_all is_whole reads ≡ true) × FoldAsWanted reads
 IsFetchCause index (BadFragment refused want made) reads =
     (refused ≡ index) × (list_all is_whole reads ≡ true) × ((before : List ℕ) × (indexes reads ≡ index ∷ before))
     × (folded sha256 reads ≡ Some made) × (wanted sha256 reads ≡ Some want) × (want ≢ made)
-IsFetchCause index other reads = ⊥
+IsFetchCause index BadHeader reads = ⊥
+IsFetchCause index (WrongRoot want made) reads = ⊥
+IsFetchCause index (WrongKey want made) reads = ⊥
+IsFetchCause index BadIndex reads = ⊥
 
 -- how an opener that has not refused answers, by its reads after the call
 abbrev pub FetchEnds : {T : Type 0} → Result T ReadFault → ℕ → Header → List ℕ → List ℕ → List ℕ → List StoreRead → Type 0
 FetchEnds (Ok done) index header top key bytes reads = IsFetched index header top key bytes reads
 FetchEnds (Err fault) index header top key bytes reads = IsRegular reads × IsFetchCause index fault reads
+
+-- what a call of an opener adds to the fragments that were opened, the newest first: this one after Ok, and after a refusal this
+-- one or none
+abbrev pub OpensOne : {T : Type 0} → Result T ReadFault → ℕ → List ℕ → List ℕ → Type 0
+OpensOne (Ok done) index before after = after ≡ index ∷ before
+OpensOne (Err fault) index before after = (after ≡ index ∷ before) ⊎ (after ≡ before)
+
+-- so a call adds to those opened since the opener's start, where the store tells what it served before and after
+abbrev pub Opens : {T : Type 0} → Result T ReadFault → ℕ → Option (List StoreRead) → Option (List StoreRead) → Type 0
+Opens result index before after =
+    IfSome before (λ old. IfSome after (λ new. OpensOne result index (indexes (since old)) (indexes (since new))))
 
 -- ---- the aim of the next opening, by what is kept
 

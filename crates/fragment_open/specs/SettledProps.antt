@@ -15,41 +15,50 @@ use Rattle.fragment_open.specs.Good.{AreGood}
 use Rattle.fragment_open.specs.Held.{IsStoreFault}
 use Rattle.fragment_open.specs.Settled.{AreHeld, IsQuiet, IsQuietIfHeld, IsKept, IsKeptOf, IsSettled, Settled, since}
 
+-- that each opening folds to what is wanted of it has at most one proof
 pub AreGood-prop : (n : ℕ) (top : List ℕ) (os : List Opening) → IsProp (AreGood sha256 n top os)
 AreGood-prop n top [] = hlevel props
 AreGood-prop n top (o ∷ os) = let rest = AreGood-prop n top os in hlevel (props, rest)
 
+-- that what is kept is of the newest opening has at most one proof
 pub IsKept-prop : (n : ℕ) (kept : Option Kept) (os : List Opening) → IsProp (IsKept n kept os)
 IsKept-prop n None [] = hlevel props
 IsKept-prop n None (o ∷ os) = hlevel props
 IsKept-prop n (Some kept) [] = hlevel props
 IsKept-prop n (Some kept) (o ∷ os) = hlevel props
 
+-- that the reads of an opener are those of one that refused nothing has at most one proof
 pub IsSettled-prop : (header : Header) (top : List ℕ) (kept : Option Kept) (reads : List StoreRead) → IsProp (IsSettled header top kept reads)
 IsSettled-prop header top kept reads =
     let good = AreGood-prop (fragment_count header) top (openings reads) in
     let is = IsKept-prop (fragment_count header) kept (openings reads) in
     hlevel (props, good, is)
 
+-- the same of an opener that may have refused, or whose store may not tell what it served
 pub Settled-prop : (served : Option (List StoreRead)) (header : Header) (top : List ℕ) (kept : Option Kept) (fault : Option ReadFault) → IsProp (Settled served header top kept fault)
 Settled-prop None header top kept fault = hlevel props
 Settled-prop (Some all) header top kept (Some fault) = hlevel props
 Settled-prop (Some all) header top kept None = IsSettled-prop header top kept (since all)
 
+-- that what is kept is the file's has at most one proof
 pub IsKeptOf-prop : (d : Doc) (key : List ℕ) (top : ℕ) (kept : Option Kept) → IsProp (IsKeptOf d key top kept)
 IsKeptOf-prop d key top None = hlevel props
 IsKeptOf-prop d key top (Some kept) = hlevel props
 
+-- that header, top digest and what is kept are the held file's has at most one proof
 pub AreHeld-prop : (held : Option (List ℕ)) (header : Header) (top key : List ℕ) (kept : Option Kept) → IsProp (AreHeld held header top key kept)
 AreHeld-prop held header top key kept = hlevel (props, IsKeptOf-prop)
 
+-- that a fault is the store's own failure has at most one proof
 IsStoreFault-prop : (fault : ReadFault) → IsProp (IsStoreFault fault)
 IsStoreFault-prop StoreFault = hlevel props
 IsStoreFault-prop _ = hlevel props
 
+-- that nothing was refused but by the store's own failure has at most one proof
 pub IsQuiet-prop : (fault : Option ReadFault) → IsProp (IsQuiet fault)
 IsQuiet-prop None = hlevel props
 IsQuiet-prop (Some fault) = IsStoreFault-prop fault
 
+-- the same where the store holds the file
 pub IsQuietIfHeld-prop : (held : Option (List ℕ)) (header : Header) (top key : List ℕ) (fault : Option ReadFault) → IsProp (IsQuietIfHeld held header top key fault)
 IsQuietIfHeld-prop held header top key fault = hlevel (props, IsQuiet-prop)

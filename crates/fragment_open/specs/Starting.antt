@@ -8,7 +8,7 @@ use Rattle.acl_model.specs.declared.document.Doc.{Doc}
 use Rattle.aes_block.specs.Aes.{AreBytes}
 use Rattle.acl_outside.specs.Outside.{StoreRead}
 use Rattle.acl_outside.specs.declared.read_fault.ReadFault.{ReadFault}
-use Rattle.acl_outside.specs.declared.read_fault.ReadFault.TheVariants.{BadHeader, StoreFault, StoreShort, WrongKey, WrongRoot}
+use Rattle.acl_outside.specs.declared.read_fault.ReadFault.TheVariants.{BadFragment, BadHeader, BadIndex, StoreFault, StoreShort, WrongKey, WrongRoot}
 use Rattle.merkle_chunks.specs.HeaderBytes.{fragment_count, header_bytes}
 use Rattle.merkle_chunks.specs.File.{document_header, file, key_check}
 use Rattle.merkle_chunks.specs.Strings.{root_string}
@@ -53,16 +53,28 @@ pub record IsStarted (header : Header) (top : List ℕ) (reads : List StoreRead)
   pub top_is : top_served reads ≡ Some top
   pub all_whole : list_all is_whole reads ≡ true
 
--- why a start under a root and a key was refused, by its reads: what was served as a header is none; a read came short; the store
--- failed before a read or behind that of a header; the root string served has another digest than the root; or it has that one, and the key another check than the header
+-- The reads are the two of a start: that of a header, which is the one served, and that of the top digest by it.
+pub record AreOfStart (header : Header) (reads : List StoreRead) : Type 0 where
+  pub served : header_served reads ≡ Some header
+  pub asked : map ask_of reads ≡ header_ask ∷ top_ask (fragment_count header) ∷ []
+
+-- why a start under a root and a key was refused, by its reads: what was served as a header is none; the read of the header came
+-- short, or the second of the two reads of a start; the store failed before a read or behind that of a header; these two came
+-- whole, and the root string served has another digest than the root, or it has that one, and the key another check than the
+-- header
 abbrev pub IsStartCause : List ℕ → List ℕ → ReadFault → List StoreRead → Type 0
 IsStartCause root key BadHeader reads = (map ask_of reads ≡ header_ask ∷ []) × (header_served reads ≡ None) × (list_all is_whole reads ≡ true)
-IsStartCause root key (StoreShort to) reads = IsCut to reads
+IsStartCause root key (StoreShort to) reads =
+    IsCut to reads × ((map ask_of reads ≡ header_ask ∷ []) ⊎ ((header : Header) × AreOfStart header reads))
 IsStartCause root key StoreFault reads = (reads ≡ []) ⊎ ((header : Header) × IsHeaderRead header reads)
-IsStartCause root key (WrongRoot want made) reads = (option_map sha256 (root_served reads) ≡ Some made) × (want ≡ root) × (want ≢ made)
+IsStartCause root key (WrongRoot want made) reads =
+    (option_map sha256 (root_served reads) ≡ Some made) × (want ≡ root) × (want ≢ made)
+    × ((header : Header) × AreOfStart header reads) × (list_all is_whole reads ≡ true)
 IsStartCause root key (WrongKey want made) reads =
     (option_map sha256 (root_served reads) ≡ Some root) × (option_map (λ h. h.check) (header_served reads) ≡ Some want) × (made ≡ key_check key) × (want ≢ made)
-IsStartCause root key other reads = ⊥
+    × ((header : Header) × AreOfStart header reads) × (list_all is_whole reads ≡ true)
+IsStartCause root key (BadFragment index want made) reads = ⊥
+IsStartCause root key BadIndex reads = ⊥
 
 -- a start under a root and a key was refused: its reads are the first of those that an opener makes, and show why
 abbrev pub IsNotStarted : List ℕ → List ℕ → ReadFault → List StoreRead → Type 0

@@ -1,5 +1,5 @@
 //! The way from a fragment's digest up the table, level by level.
-ghost use Rattle.std.specs.Prelude.{◌≡◌, ◌+◌, ◌<◌, ◌≤◌, length, ◌↔◌, ℕ, List, IfOk, IsErrOf, MatchResult};
+ghost use Rattle.std.specs.Prelude.{◌≡◌, ◌+◌, ◌<◌, ◌≤◌, length, ◌↔◌, ℕ, List, IfOk, IsErrOf, MatchResult, OnOk, IfErr};
 ghost use Rattle.sha2.specs.Sha256.{sha256};
 ghost use Rattle.acl_model.specs.declared.document.Doc.{Doc};
 ghost use Rattle.acl_outside.specs.Outside.{NotFallen, Rose};
@@ -8,7 +8,7 @@ ghost use Rattle.fragment_open.specs.Asks.{has_sibling, index_at, sibling_of};
 ghost use Rattle.fragment_open.specs.Hashed.{parent_string};
 ghost use Rattle.fragment_open.specs.Told.{Told};
 ghost use Rattle.fragment_open.specs.Climbing.{Climbs, Ends, IsNext, IsSibling, LacksSibling};
-ghost use Rattle.fragment_open.specs.Held.{GivesOrFails, HoldsFile, digest_held, sibling_held};
+ghost use Rattle.fragment_open.specs.Held.{GivesOrFails, HoldsFile, IsQuietElse, digest_held, sibling_held};
 
 use crate::last::Last;
 use crate::reading::read_whole;
@@ -108,6 +108,8 @@ fn read_sibling<S: Store>(store: &mut S, climb: &Climb) -> Result<[u8; 32], Read
     ensures constant { S.holds store.new ≡ S.holds store.old }
     ensures cause { IsErrOf result ReadFault.StoreFault → Rose (S.faults store.old) (S.faults store.new) }
     ensures never_falls { NotFallen (S.faults store.old) (S.faults store.new) }
+    ensures quiet { OnOk result (S.faults store.new ≡ S.faults store.old) }
+    ensures quiet_else { IfErr result (λ fault. IsQuietElse fault (S.faults store.old) (S.faults store.new)) }
 {
     let mut digest = [0; 32];
     let sibling = climb.sibling();
@@ -132,6 +134,8 @@ fn step<S: Store>(store: &mut S, climb: Climb, last: &mut Last) -> Result<Climb,
     ensures constant { S.holds store.new ≡ S.holds store.old }
     ensures cause { IsErrOf result ReadFault.StoreFault → Rose (S.faults store.old) (S.faults store.new) }
     ensures never_falls { NotFallen (S.faults store.old) (S.faults store.new) }
+    ensures quiet { OnOk result (S.faults store.new ≡ S.faults store.old) }
+    ensures quiet_else { IfErr result (λ fault. IsQuietElse fault (S.faults store.old) (S.faults store.new)) }
 {
     let sibling = read_sibling(store, &climb)?;
     Ok(climb.above(&sibling, last))
@@ -157,6 +161,8 @@ pub(crate) fn climb_to<S: Store>(
     ensures constant { S.holds store.new ≡ S.holds store.old }
     ensures cause { IsErrOf result ReadFault.StoreFault → Rose (S.faults store.old) (S.faults store.new) }
     ensures never_falls { NotFallen (S.faults store.old) (S.faults store.new) }
+    ensures quiet { OnOk result (S.faults store.new ≡ S.faults store.old) }
+    ensures quiet_else { IfErr result (λ fault. IsQuietElse fault (S.faults store.old) (S.faults store.new)) }
 {
     let mut climb = from;
     'up: while climb.level < goal {

@@ -1,5 +1,5 @@
 //! What an opener knows of a file before it opens a fragment: the header and the top digest, under the right root and key.
-ghost use Rattle.std.specs.Prelude.{◌≡◌, ◌≢◌, ◌≤◌, ℕ, List, None, IfOk, IsErrOf, MatchResult};
+ghost use Rattle.std.specs.Prelude.{◌≡◌, ◌≢◌, ◌≤◌, ℕ, List, None, IfOk, IsErrOf, MatchResult, OnOk, IfErr};
 ghost use Rattle.sha2.specs.Sha256.{sha256};
 ghost use Rattle.acl_model.specs.declared.document.Doc.{Doc};
 ghost use Rattle.acl_outside.specs.Outside.{NotFallen, Rose};
@@ -10,7 +10,7 @@ ghost use Rattle.merkle_chunks.specs.Strings.{root_string};
 ghost use Rattle.merkle_chunks.specs.Table.{top_level};
 ghost use Rattle.merkle_chunks.specs.Table.{top_level as top_level_of};
 ghost use Rattle.fragment_open.specs.Told.{Told};
-ghost use Rattle.fragment_open.specs.Held.{GivesOrFails, HoldsFile, IsStoreFault, digest_held};
+ghost use Rattle.fragment_open.specs.Held.{GivesOrFails, HoldsFile, IsQuietElse, IsStoreFault, digest_held};
 ghost use Rattle.fragment_open.specs.Settled.{AreHeld, Settled};
 ghost use Rattle.fragment_open.specs.Starting.{HoldsDocument, IsHead, IsHeadFault, IsHeadOf, IsHeaderRead, IsNoHeader, IsNoTop, IsNotStarted, IsStarted, IsTopRead, IsUnder};
 
@@ -30,6 +30,8 @@ fn read_header<S: Store>(store: &mut S) -> Result<Header, ReadFault>
     ensures constant { S.holds store.new ≡ S.holds store.old }
     ensures cause { IsErrOf result ReadFault.StoreFault → Rose (S.faults store.old) (S.faults store.new) }
     ensures never_falls { NotFallen (S.faults store.old) (S.faults store.new) }
+    ensures quiet { OnOk result (S.faults store.new ≡ S.faults store.old) }
+    ensures quiet_else { IfErr result (λ fault. IsQuietElse fault (S.faults store.old) (S.faults store.new)) }
 {
     let mut bytes = [0; 64];
     read_whole(store, 0, &mut bytes)?;
@@ -51,6 +53,8 @@ fn read_top<S: Store>(store: &mut S, fragments: u32) -> Result<[u8; 32], ReadFau
     ensures constant { S.holds store.new ≡ S.holds store.old }
     ensures cause { IsErrOf result ReadFault.StoreFault → Rose (S.faults store.old) (S.faults store.new) }
     ensures never_falls { NotFallen (S.faults store.old) (S.faults store.new) }
+    ensures quiet { OnOk result (S.faults store.new ≡ S.faults store.old) }
+    ensures quiet_else { IfErr result (λ fault. IsQuietElse fault (S.faults store.old) (S.faults store.new)) }
 {
     let mut top = [0; 32];
     read_whole(
@@ -119,9 +123,8 @@ impl Head {
     }
 }
 
-/// Starts on a store: reads the header and the top digest, and checks the root and then the key. The refusals, in the order in
-/// which they are met: `StoreFault` and `StoreShort` at the header, `BadHeader`, these two at the top digest, `WrongRoot`,
-/// `WrongKey`.
+/// Starts on a store: reads the header and the top digest, and checks the root and then the key. Each of the two reads may end
+/// in `StoreFault` or `StoreShort`. Behind the first comes `BadHeader`, behind the second `WrongRoot`, and then `WrongKey`.
 pub fn begin<S: Store>(store: &mut S, root: [u8; 32], key: [u8; 16]) -> Result<Head, ReadFault>
     ensures told { Told (S.served store.old) (S.served store.new) (λ reads. MatchResult result
         (λ head. IsStarted head.header head.top reads)
@@ -137,6 +140,8 @@ pub fn begin<S: Store>(store: &mut S, root: [u8; 32], key: [u8; 16]) -> Result<H
     ensures constant { S.holds store.new ≡ S.holds store.old }
     ensures cause { IsErrOf result ReadFault.StoreFault → Rose (S.faults store.old) (S.faults store.new) }
     ensures never_falls { NotFallen (S.faults store.old) (S.faults store.new) }
+    ensures quiet { OnOk result (S.faults store.new ≡ S.faults store.old) }
+    ensures quiet_else { IfErr result (λ fault. IsQuietElse fault (S.faults store.old) (S.faults store.new)) }
 {
     let header = read_header(store)?;
     let top = read_top(store, header.fragments())?;

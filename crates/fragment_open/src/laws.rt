@@ -48,8 +48,8 @@ pub fn reads_of_an_opener_begin_with_its_start()
         → since (before ++ more) ≡ since before ++ more }
 {}
 
-/// Good reads under the root of a document's file served its header, and the newest opening read its own fragment; or two different
-/// strings of equal digest stand under one name among those hashed by the reads and those of the file.
+/// Good reads under the root of a document's file served its header, and the newest opening read its own fragment; or some name
+/// has one string in what the reads hash and another in the file, with one digest.
 pub fn good_reads_are_of_the_file_or_clash()
     ensures header { (d : Doc) (key root : List ℕ) (h : Header) (top : List ℕ) (reads : List StoreRead)
         → is_document d ≡ true → AreBytes 16 key → HasRoot d key root → AreChecked root h top reads

@@ -1,11 +1,11 @@
 //! One opening of a fragment: its cipher bytes, and what they fold to.
-ghost use Rattle.std.specs.Prelude.{◌≡◌, ◌<◌, ◌≤◌, length, ℕ, List, IsErrOf, MatchResult};
+ghost use Rattle.std.specs.Prelude.{◌≡◌, ◌<◌, ◌≤◌, length, ℕ, List, IsErrOf, MatchResult, OnOk, IfErr};
 ghost use Rattle.acl_model.specs.declared.document.Doc.{Doc};
 ghost use Rattle.acl_outside.specs.Outside.{NotFallen, Rose};
 ghost use Rattle.merkle_chunks.specs.Table.{top_level};
 ghost use Rattle.fragment_open.specs.Told.{Told};
 ghost use Rattle.fragment_open.specs.Climbing.{IsNotOpened, IsOpened};
-ghost use Rattle.fragment_open.specs.Held.{HoldsFile, IsOpenedHeld, IsStoreFault};
+ghost use Rattle.fragment_open.specs.Held.{HoldsFile, IsOpenedHeld, IsQuietElse, IsStoreFault};
 
 use crate::climb::{Climb, climb_to};
 use crate::last::Last;
@@ -47,6 +47,8 @@ pub(crate) fn open_to<S: Store>(
     ensures constant { S.holds store.new ≡ S.holds store.old }
     ensures cause { IsErrOf result ReadFault.StoreFault → Rose (S.faults store.old) (S.faults store.new) }
     ensures never_falls { NotFallen (S.faults store.old) (S.faults store.new) }
+    ensures quiet { OnOk result (S.faults store.new ≡ S.faults store.old) }
+    ensures quiet_else { IfErr result (λ fault. IsQuietElse fault (S.faults store.old) (S.faults store.new)) }
 {
     let mut cipher = [0; 256];
     read_whole(store, 64 + 256 * u64::from(index), &mut cipher)?;

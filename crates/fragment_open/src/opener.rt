@@ -1,6 +1,6 @@
 //! Opens the fragments of a file in a store that nobody trusts: a fragment is read, folded with its siblings up to a digest that is
 //! known, and only then unlocked.
-ghost use Rattle.std.specs.Prelude.{◌≡◌, ◌/◌, ◌<◌, ℕ, List, [], false, Option, None, Some, Err, IfOk, IfSome, OnErr, IsErrOf, MatchResult, if◌then◌else◌, slice_index_or};
+ghost use Rattle.std.specs.Prelude.{◌≡◌, ◌/◌, ◌<◌, ℕ, List, [], false, Option, None, Some, Err, IfOk, IfSome, OnErr, IsErrOf, MatchResult, if◌then◌else◌, slice_index_or, OnOk, IfErr};
 ghost use Rattle.std.specs.List.{list_any};
 ghost use Rattle.acl_model.specs.Stream.{plain};
 ghost use Rattle.acl_model.specs.declared.document.Doc.{Doc};
@@ -9,9 +9,9 @@ ghost use Rattle.merkle_chunks.specs.HeaderBytes.{fragment_count};
 ghost use Rattle.merkle_chunks.specs.File.{file_root};
 ghost use Rattle.merkle_chunks.specs.Table.{fragments};
 ghost use Rattle.fragment_open.specs.Told.{Told};
-ghost use Rattle.fragment_open.specs.Held.{IsStoreFault};
+ghost use Rattle.fragment_open.specs.Held.{IsQuietElse, IsStoreFault};
 ghost use Rattle.fragment_open.specs.Starting.{HoldsDocument, IsHeadOf, IsStarted, IsUnder};
-ghost use Rattle.fragment_open.specs.Settled.{AreHeld, FetchEnds, IsQuietIfHeld, Settled, goes_to_chunk, is_start, root_by, since, want_by};
+ghost use Rattle.fragment_open.specs.Settled.{AreHeld, FetchEnds, IsQuietIfHeld, Opens, Settled, goes_to_chunk, is_start, root_by, since, want_by};
 ghost use Rattle.fragment_open.specs.SettledProps.{AreHeld-prop, IsQuietIfHeld-prop, Settled-prop};
 
 use crate::head::{Head, begin};
@@ -119,13 +119,15 @@ impl<'a, S: Store> Opener<'a, S> {
         self.head.header()
     }
     /// Opens the fragment of an index, from 0, and gives its plain bytes. The refusals are `StoreFault`, `StoreShort` and
-    /// `BadFragment`. After one `into` is as it was, and from then on the answer is the same without a read.
+    /// `BadFragment`. After one `into` is as it was, and each later call answers so again and asks the store for nothing.
     pub fn fetch(&mut self, index: u32, into: &mut [u8; 256]) -> Result<(), ReadFault>
         requires { index < fragment_count self.old.head.header }
         ensures same_store { self.new.store.ghost_name ≡ self.old.store.ghost_name }
         ensures same_head { self.new.head ≡ self.old.head }
         ensures ends { self.old.fault ≡ None → IfSome (S.served self.new.store.now) (λ all.
             FetchEnds result index self.old.head.header self.old.head.top self.old.head.key into.new (since all)) }
+        ensures opens { self.old.fault ≡ None
+            → Opens result index (S.served self.old.store.now) (S.served self.new.store.now) }
         ensures grown { Told (S.served self.old.store.now) (S.served self.new.store.now) (λ more. list_any is_start more ≡ false) }
         ensures held { (d : Doc) → HoldsDocument (S.holds self.old.store.now) d self.old.head.key
             → file_root d self.old.head.key ≡ root_by self.old.head.header self.old.head.top → MatchResult result
@@ -139,6 +141,8 @@ impl<'a, S: Store> Opener<'a, S> {
         ensures cause { self.old.fault ≡ None → IsErrOf result ReadFault.StoreFault
             → Rose (S.faults self.old.store.now) (S.faults self.new.store.now) }
         ensures never_falls { NotFallen (S.faults self.old.store.now) (S.faults self.new.store.now) }
+        ensures quiet { self.old.fault ≡ None → OnOk result (S.faults self.new.store.now ≡ S.faults self.old.store.now) }
+        ensures quiet_else { self.old.fault ≡ None → IfErr result (λ fault. IsQuietElse fault (S.faults self.old.store.now) (S.faults self.new.store.now)) }
     {
         match self.fault {
             Some(fault) => Err(fault),
@@ -154,6 +158,7 @@ impl<'a, S: Store> Opener<'a, S> {
         ensures same_head { self.new.head ≡ self.old.head }
         ensures ends { IfSome (S.served self.new.store.now) (λ all.
             FetchEnds result index self.old.head.header self.old.head.top self.old.head.key into.new (since all)) }
+        ensures opens { Opens result index (S.served self.old.store.now) (S.served self.new.store.now) }
         ensures grown { Told (S.served self.old.store.now) (S.served self.new.store.now) (λ more. list_any is_start more ≡ false) }
         ensures held { (d : Doc) → HoldsDocument (S.holds self.old.store.now) d self.old.head.key
             → file_root d self.old.head.key ≡ root_by self.old.head.header self.old.head.top → MatchResult result
@@ -166,6 +171,8 @@ impl<'a, S: Store> Opener<'a, S> {
         ensures cause { IsErrOf result ReadFault.StoreFault
             → Rose (S.faults self.old.store.now) (S.faults self.new.store.now) }
         ensures never_falls { NotFallen (S.faults self.old.store.now) (S.faults self.new.store.now) }
+        ensures quiet { OnOk result (S.faults self.new.store.now ≡ S.faults self.old.store.now) }
+        ensures quiet_else { IfErr result (λ fault. IsQuietElse fault (S.faults self.old.store.now) (S.faults self.new.store.now)) }
     {
         let top = self.head.top;
         let aim = aim_of(self.head.top_level, top, self.kept, index);

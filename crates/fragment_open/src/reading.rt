@@ -1,6 +1,7 @@
 //! One read of a store, which has to come whole.
-ghost use Rattle.std.specs.Prelude.{◌≡◌, ◌+◌, ◌^◌, ◌<◌, IfSome, IsErrOf, length};
+ghost use Rattle.std.specs.Prelude.{◌≡◌, ◌+◌, ◌^◌, ◌<◌, IfSome, IsErrOf, length, OnOk, IfErr};
 ghost use Rattle.acl_outside.specs.Outside.{NotFallen, Rose};
+ghost use Rattle.fragment_open.specs.Held.{IsQuietElse};
 ghost use Rattle.fragment_open.specs.Told.{GivesWhole, ReadsWhole, Told};
 
 use acl_outside::{ReadFault, Store};
@@ -13,6 +14,8 @@ pub(crate) fn read_whole<S: Store>(store: &mut S, at: u64, into: &mut [u8]) -> R
     ensures constant { S.holds store.new ≡ S.holds store.old }
     ensures cause { IsErrOf result ReadFault.StoreFault → Rose (S.faults store.old) (S.faults store.new) }
     ensures never_falls { NotFallen (S.faults store.old) (S.faults store.new) }
+    ensures quiet { OnOk result (S.faults store.new ≡ S.faults store.old) }
+    ensures quiet_else { IfErr result (λ fault. IsQuietElse fault (S.faults store.old) (S.faults store.new)) }
 {
     let Ok(count) = store.read_at(at, into) else {
         return Err(ReadFault::StoreFault);

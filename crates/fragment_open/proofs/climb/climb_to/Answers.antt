@@ -31,6 +31,7 @@ up-preserved g c =
           inv.same.0 inv.same.1 inv.told c.in_ok-climb.ensures.told;
       constant = c.in_ok-climb.ensures.constant ∙ inv.constant;
       never_falls = omega (arith, c.in_ok-climb.ensures.never_falls, inv.never_falls);
+      quiet = c.in_ok-climb.ensures.quiet ∙ inv.quiet;
       held = λ d key holds here.
           c.in_ok-climb.ensures.held d key (still_holds (g.S.Store.holds c.args.store.now) (g.S.Store.holds c.up.store) c.args.from.fragments s.fragments d key inv.constant inv.same.0 holds)
           (inv.held d key holds here ∙ ap (λ (i : ℕ). digest_held d key s.level (index_at i s.level)) (sym inv.same.1))

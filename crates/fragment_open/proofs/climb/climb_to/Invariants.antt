@@ -14,6 +14,7 @@ invariant-up g l = record {
   told : Told (g.S.Store.served l.fn.store) (g.S.Store.served l.store) (Climbs l.fn.from.fragments l.fn.from.index l.fn.from.level l.fn.from.digest l.climb.level l.climb.digest);
   constant : g.S.Store.holds l.store ≡ g.S.Store.holds l.fn.store;
   never_falls : NotFallen (g.S.Store.faults l.fn.store) (g.S.Store.faults l.store);
+  quiet : g.S.Store.faults l.store ≡ g.S.Store.faults l.fn.store;
   held : (d : Doc) (key : List ℕ) → HoldsFile (g.S.Store.holds l.fn.store) l.fn.from.fragments d key → l.fn.from.digest ≡ digest_held d key l.fn.from.level (index_at l.fn.from.index l.fn.from.level)
       → l.climb.digest ≡ digest_held d key l.climb.level (index_at l.fn.from.index l.climb.level);
 }

@@ -4,6 +4,7 @@ use Rattle.std.specs.List.{list_any}
 use Rattle.acl_model.specs.declared.document.Doc.{Doc}
 use Rattle.acl_outside.specs.Outside.{StoreRead}
 use Rattle.acl_outside.specs.declared.read_fault.ReadFault.{ReadFault}
+use Rattle.acl_outside.specs.declared.read_fault.ReadFault.TheVariants.{BadFragment}
 use Rattle.merkle_chunks.specs.HeaderBytes.{fragment_count}
 use Rattle.merkle_chunks.specs.File.{document_header}
 use Rattle.merkle_chunks.specs.Table.{top_level}
@@ -14,12 +15,12 @@ use Rattle.fragment_open.specs.Told.{Told}
 use Rattle.fragment_open.specs.Climbing.{IsNotOpened, IsOpened}
 use Rattle.fragment_open.specs.Held.{HoldsFile}
 use Rattle.fragment_open.specs.Starting.{HoldsDocument}
-use Rattle.fragment_open.specs.Settled.{FetchEnds, Settled, goes_to_chunk, is_start, since, want_by}
+use Rattle.fragment_open.specs.Settled.{FetchEnds, Opens, Settled, goes_to_chunk, is_start, since, want_by}
 use Rattle.fragment_open.proofs.ClashLemmas.{bytes_differ, bytes_same}
 use Rattle.fragment_open.proofs.HeldLemmas.{still_holds}
 use Rattle.fragment_open.proofs.StartLemmas.{holds_file}
 use Rattle.fragment_open.proofs.FetchLemmas.{bytes_held, kept_held, want_held}
-use Rattle.fragment_open.proofs.TellLemmas.{grown-ended, grown-opened, settled-fetched, told-bad, told-ended, told-fetched}
+use Rattle.fragment_open.proofs.TellLemmas.{grown-ended, grown-opened, opens-bad, opens-ended, opens-fetched, settled-fetched, told-bad, told-ended, told-fetched}
 use Rattle.fragment_open.proofs.opener.Opener.open_next.Goals as goal
 
 level_is : (head : Head) → head.top_level ≡ top_level (fragment_count head.header)
@@ -60,6 +61,14 @@ returns-in-Err-clause-grown g c =
     let aim = c.aim_of-aim.result in
     grown-ended head.header head.top self.kept (g.S.Store.served c.args.self.now.store.now) (g.S.Store.served c.open_to.new.store) (quiet_is (g.S.Store.served c.args.self.now.store.now) head self.kept self.fault c.requires.quiet self.settled) i c.requires.within aim.goal (aim_is head i aim.goal self.kept c.aim_of-aim.ensures.goal) c.in-Err.fault (told_ended head i aim.goal c.in-Err.fault (g.S.Store.served c.args.self.now.store.now) (g.S.Store.served c.open_to.new.store) c.in-Err.ensures.told)
 
+pub returns-in-Err-clause-opens : goal.returns-in-Err-clause-opens
+returns-in-Err-clause-opens g c =
+    let self = c.args.self.now in
+    let head = self.head in
+    let i : ℕ = c.args.index in
+    let aim = c.aim_of-aim.result in
+    opens-ended head.header head.top self.kept (g.S.Store.served c.args.self.now.store.now) (g.S.Store.served c.open_to.new.store) (quiet_is (g.S.Store.served c.args.self.now.store.now) head self.kept self.fault c.requires.quiet self.settled) i c.requires.within aim.goal (aim_is head i aim.goal self.kept c.aim_of-aim.ensures.goal) c.in-Err.fault (told_ended head i aim.goal c.in-Err.fault (g.S.Store.served c.args.self.now.store.now) (g.S.Store.served c.open_to.new.store) c.in-Err.ensures.told)
+
 pub returns-in-Err-clause-held : goal.returns-in-Err-clause-held
 returns-in-Err-clause-held g c = λ d is has.
     let self = c.args.self.now in
@@ -84,6 +93,15 @@ returns-then-ne-clause-grown g c =
     let aim = c.aim_of-aim.result in
     let o = c.in-Ok.opened in
     grown-opened head.header head.top self.kept (g.S.Store.served c.args.self.now.store.now) (g.S.Store.served c.open_to.new.store) (quiet_is (g.S.Store.served c.args.self.now.store.now) head self.kept self.fault c.requires.quiet self.settled) i c.requires.within aim.goal (aim_is head i aim.goal self.kept c.aim_of-aim.ensures.goal) o.cipher o.chunk o.digest aim.want (told_opened head i aim.goal o.cipher o.chunk o.digest (g.S.Store.served c.args.self.now.store.now) (g.S.Store.served c.open_to.new.store) c.in-Ok.ensures.told) (want_is head i self.kept aim.want c.aim_of-aim.ensures.want)
+
+pub returns-then-ne-clause-opens : goal.returns-then-ne-clause-opens
+returns-then-ne-clause-opens g c =
+    let self = c.args.self.now in
+    let head = self.head in
+    let i : ℕ = c.args.index in
+    let aim = c.aim_of-aim.result in
+    let o = c.in-Ok.opened in
+    opens-bad head.header head.top self.kept (g.S.Store.served c.args.self.now.store.now) (g.S.Store.served c.open_to.new.store) (quiet_is (g.S.Store.served c.args.self.now.store.now) head self.kept self.fault c.requires.quiet self.settled) i c.requires.within aim.goal (aim_is head i aim.goal self.kept c.aim_of-aim.ensures.goal) o.cipher o.chunk o.digest aim.want (told_opened head i aim.goal o.cipher o.chunk o.digest (g.S.Store.served c.args.self.now.store.now) (g.S.Store.served c.open_to.new.store) c.in-Ok.ensures.told) (want_is head i self.kept aim.want c.aim_of-aim.ensures.want) (BadFragment i aim.want o.digest)
 
 pub returns-then-ne-clause-held : goal.returns-then-ne-clause-held
 returns-then-ne-clause-held g c = λ d is has.
@@ -140,6 +158,16 @@ returns-clause-grown g c =
     let o = c.in-Ok.opened in
     subst (λ store. Told (g.S.Store.served c.args.self.now.store.now) (g.S.Store.served store) (λ more. list_any is_start more ≡ false)) (sym c.keep.ensures.same_now)
     (grown-opened head.header head.top self.kept (g.S.Store.served c.args.self.now.store.now) (g.S.Store.served c.open_to.new.store) (quiet_is (g.S.Store.served c.args.self.now.store.now) head self.kept self.fault c.requires.quiet self.settled) i c.requires.within aim.goal (aim_is head i aim.goal self.kept c.aim_of-aim.ensures.goal) o.cipher o.chunk o.digest aim.want (told_opened head i aim.goal o.cipher o.chunk o.digest (g.S.Store.served c.args.self.now.store.now) (g.S.Store.served c.open_to.new.store) c.in-Ok.ensures.told) (want_is head i self.kept aim.want c.aim_of-aim.ensures.want))
+
+pub returns-clause-opens : goal.returns-clause-opens
+returns-clause-opens g c =
+    let self = c.args.self.now in
+    let head = self.head in
+    let i : ℕ = c.args.index in
+    let aim = c.aim_of-aim.result in
+    let o = c.in-Ok.opened in
+    subst (λ store. Opens {T = Unit {0}} (Ok tt) i (g.S.Store.served c.args.self.now.store.now) (g.S.Store.served store)) (sym c.keep.ensures.same_now)
+    (opens-fetched head.header head.top self.kept (g.S.Store.served c.args.self.now.store.now) (g.S.Store.served c.open_to.new.store) (quiet_is (g.S.Store.served c.args.self.now.store.now) head self.kept self.fault c.requires.quiet self.settled) i c.requires.within aim.goal (aim_is head i aim.goal self.kept c.aim_of-aim.ensures.goal) o.cipher o.chunk o.digest aim.want (told_opened head i aim.goal o.cipher o.chunk o.digest (g.S.Store.served c.args.self.now.store.now) (g.S.Store.served c.open_to.new.store) c.in-Ok.ensures.told) (want_is head i self.kept aim.want c.aim_of-aim.ensures.want) tt)
 
 pub returns-clause-held : goal.returns-clause-held
 returns-clause-held g c = λ d is has.
