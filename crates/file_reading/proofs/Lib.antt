@@ -1,0 +1,5 @@
+pub mod ClashGrowth
+pub mod StreamLemmas
+pub mod ShownLemmas
+pub mod OrderLemmas
+pub mod FileLemmas

@@ -1,0 +1,46 @@
+//! A whole file: the header and the top digest are checked against the root and the key, then each
+//! fragment is opened in order, and the stream is taken apart.
+
+ghost use Rattle.std.specs.Prelude.{◌≡◌, OnOk, IfErr, MatchResult};
+ghost use Rattle.acl_outside.specs.Outside.{NotFallen, Rose};
+ghost use Rattle.fragment_open.specs.Told.{Told};
+ghost use Rattle.file_reading.specs.FileEnds.{FileEnds, IsHonestFault, IsQuietFault, IsRefusedWhereShown, IsStoreFailure, OfHeldDocument, OpensInOrder};
+
+use crate::fault::FileFault;
+use crate::stream::read_stream;
+use acl_model::Doc;
+use acl_outside::Store;
+use fragment_open::begin;
+use skip_decode::decode_all;
+use std::alloc::Global;
+
+/// Reads the document of a file under a root and a key. A store that holds it gives it. Another
+/// store gives it or is refused, unless two different strings of one digest are met; of a document
+/// that is given under a root which no encoding has, nothing is said. It is refused as [`begin`]
+/// refuses it, then by its fragments, from 0 on, and last by `BadIndex`. The file's stream is read
+/// into one allocation.
+pub fn read_file<S: Store>(
+    alloc: Global,
+    store: &mut S,
+    root: [u8; 32],
+    key: [u8; 16],
+) -> Result<Doc, FileFault>
+    ensures told { Told (S.served store.old) (S.served store.new) (FileEnds result root key) }
+    ensures exact { Told (S.served store.old) (S.served store.new)
+        (λ reads. IsRefusedWhereShown result root key reads) }
+    ensures in_order { Told (S.served store.old) (S.served store.new) (OpensInOrder result) }
+    ensures held { OfHeldDocument (S.holds store.old) root key (λ d. MatchResult result
+        (λ doc. doc ≡ d)
+        IsHonestFault) }
+    ensures constant { S.holds store.new ≡ S.holds store.old }
+    ensures cause { IsStoreFailure result → Rose (S.faults store.old) (S.faults store.new) }
+    ensures never_falls { NotFallen (S.faults store.old) (S.faults store.new) }
+    ensures quiet { OnOk result (S.faults store.new ≡ S.faults store.old) }
+    ensures quiet_else { IfErr result
+        (λ fault. IsQuietFault fault (S.faults store.old) (S.faults store.new)) }
+{
+    let head = begin(store, root, key)?;
+    let header = *head.header();
+    let stream = read_stream(alloc, store, head)?;
+    Ok(decode_all(alloc, stream.as_slice(), &header)?)
+}
