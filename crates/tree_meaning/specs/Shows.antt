@@ -115,6 +115,7 @@ written_by attributes name items (Whole ∷ shows) = around true attributes name
 written_by attributes name items (Dummy ∷ shows) = around false attributes name (in_turn items false shows)
 written_by attributes name items (Absent ∷ shows) = record { text = []; rest = shows }
 
+-- An element is written by its attributes, its name and its items, in whose places stand what is written of them.
 abbrev pub written_in_element : Element-F (Bool → List Show → Written) (List Show → Written) → List Show → Written
 written_in_element e shows = written_by e.attributes e.name e.items shows
 
