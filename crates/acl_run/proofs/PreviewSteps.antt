@@ -283,17 +283,17 @@ showing-may_end what o h = showing-may_end_so what (end_of o) h
 -- ---- the query
 
 -- where no query is to be answered, memory alone may be wanting
-nothing_asked : (e : End) (later : Type 0) → IsTrue (may_end_in (asks is_query good ∷ []) e) → OrNoMemory e later
+pub nothing_asked : (e : End) (later : Type 0) → IsTrue (may_end_in (asks is_query good ∷ []) e) → OrNoMemory e later
 nothing_asked no_memory later h = tt
 nothing_asked (refused some_states) later h = absurd (true≢false (sym h))
 nothing_asked e later h = absurd (true≢false (sym h))
 
 -- an answer is wanted where the query was read as a path
-answer_read : (r : Result Path Outcome) (wanted : Wanted) → result_map_both Answer (λ refusal. refusal) r ≡ Ok wanted → (path : Path) × (r ≡ Ok path)
+pub answer_read : (r : Result Path Outcome) (wanted : Wanted) → result_map_both Answer (λ refusal. refusal) r ≡ Ok wanted → (path : Path) × (r ≡ Ok path)
 answer_read (Ok path) wanted h = (path, refl)
 answer_read (Err o) wanted h = absurd (cc)
 
-answer_refused : (r : Result Path Outcome) (o : Outcome) → result_map_both Answer (λ refusal. refusal) r ≡ Err o → r ≡ Err o
+pub answer_refused : (r : Result Path Outcome) (o : Outcome) → result_map_both Answer (λ refusal. refusal) r ≡ Err o → r ≡ Err o
 answer_refused (Ok path) o h = absurd (cc)
 answer_refused (Err refusal) o h = cc
 

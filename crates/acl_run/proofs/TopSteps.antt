@@ -5,15 +5,16 @@ use Rattle.acl_outcome.specs.declared.outcome.Outcome.{Outcome}
 use Rattle.acl_outcome.specs.Ends.{keys, input, store, out, note}
 use Rattle.acl_outcome.specs.Ends.{End, done, no_memory, usage, fault, stopped, refused, is_fault_of, end_of}
 use Rattle.acl_outcome.specs.declared.outcome.Outcome.TheVariants.{Usage}
-use Rattle.acl_run.specs.Command.{Command, Shown, preview, encode, seal, sample}
+use Rattle.acl_run.specs.Command.{Command, Shown, preview, encode, seal, view, sample}
 use Rattle.acl_run.specs.Steps.{may_end_from}
 use Rattle.acl_run.specs.Texts.{WritesNote}
-use Rattle.acl_outside.specs.Outside.{AppendsPart}
+use Rattle.acl_outside.specs.Outside.{StoreRead}
+use Rattle.fragment_open.specs.Told.{Told}
+use Rattle.fragment_open.proofs.ClimbLemmas.{Told-none}
 use Rattle.std.proofs.KnownBytes.{Appends-nil}
-use Rattle.std.proofs.Math.Seq.{take-length}
-use Rattle.std.proofs.Common.{append-nil, arith}
 use Rattle.acl_run.specs.Work.{untold_steps, may_end, is_behind_keys, is_behind_input}
 use Rattle.acl_run.proofs.Facts.{on_true, whatever_told}
+use Rattle.acl_run.proofs.HeadlineLemmas.{part_of_none, unasked}
 use Rattle.acl_run.proofs.Objects.{source-same, source-unused, sink-same, sink-unblamed, store-same, store-unblamed}
 
 -- ---- words and commands
@@ -24,6 +25,7 @@ unfolding may_end
 taken (preview what) o h is = true≢false (sym (subst (λ p. IsTrue (may_end (preview what) p)) is h))
 taken encode o h is = true≢false (sym (subst (λ p. IsTrue (may_end encode p)) is h))
 taken seal o h is = true≢false (sym (subst (λ p. IsTrue (may_end seal p)) is h))
+taken (view what) o h is = true≢false (sym (subst (λ p. IsTrue (may_end (view what) p)) is h))
 taken (sample n) o h is = true≢false (sym (subst (λ p. IsTrue (may_end (sample n) p)) is h))
 
 -- it is Usage exactly where the words are no command line
@@ -108,6 +110,21 @@ unfolding may_end
 seal-unblamed_note o h = seal-unblamed_note_so (end_of o) h
 
 -- no fault of this object ends a run of the command
+view-unblamed_note_so : (what : Shown) (e : End) → IsTrue (may_end_from (untold_steps (view what)) e) → is_fault_of note e ≡ false
+view-unblamed_note_so what done h = refl
+view-unblamed_note_so what no_memory h = refl
+view-unblamed_note_so what (fault keys) h = refl
+view-unblamed_note_so what (fault input) h = refl
+view-unblamed_note_so what (fault store) h = refl
+view-unblamed_note_so what (fault out) h = refl
+view-unblamed_note_so what (refused subject) h = refl
+view-unblamed_note_so what e h = absurd (true≢false (sym h))
+
+pub view-unblamed_note : (what : Shown) (o : Outcome) → IsTrue (may_end (view what) o) → is_fault_of note (end_of o) ≡ false
+unfolding may_end
+view-unblamed_note what o h = view-unblamed_note_so what (end_of o) h
+
+-- no fault of this object ends a run of the command
 sample-unblamed_keys_so : (n : ℕ) (e : End) → IsTrue (may_end_from (untold_steps (sample n)) e) → is_fault_of keys e ≡ false
 sample-unblamed_keys_so n done h = refl
 sample-unblamed_keys_so n no_memory h = refl
@@ -175,11 +192,6 @@ sample-input_unread n (refused subject) P = tt
 
 -- ---- the note
 
--- nothing is a part of every text
-AppendsPart-nothing : (a : Option (List ℕ)) → AppendsPart a a []
-AppendsPart-nothing None = tt
-AppendsPart-nothing (Some x) = (omega arith, rw append-nil (take-length x))
-
 -- where no note is due, none is written
 pub no_note : (e : End) (a : Option (List ℕ)) → WritesNote e a a []
 no_note done a = Appends-nil a
@@ -189,9 +201,28 @@ no_note (fault keys) a = tt
 no_note (fault input) a = tt
 no_note (fault store) a = tt
 no_note (fault out) a = tt
-no_note (fault note) a = AppendsPart-nothing a
+no_note (fault note) a = part_of_none a []
 no_note stopped a = tt
 no_note (refused subject) a = tt
 
+-- ---- the store
+
+-- what is said of the reads of a store that is not read
+pub where_unread : (c : Command) (w : Option Command) (kl ql : Option (List ℕ)) (served : Option (List StoreRead)) (P : Command → List ℕ → List ℕ → List StoreRead → Type 0)
+    → Some c ≡ w → ((a b : List ℕ) → P c a b []) → IfSome w (λ c. IfSome kl (λ a. IfSome ql (λ b. Told served served (λ reads. P c a b reads))))
+where_unread c w kl ql served P is p =
+    where_taken c w (λ c. IfSome kl (λ a. IfSome ql (λ b. Told served served (λ reads. P c a b reads)))) is
+    (whatever_told kl ql (λ a b. Told served served (λ reads. P c a b reads)) (λ a b. Told-none served (λ reads. P c a b reads) (p a b)))
+
+-- what is said whatever the sources tell
+pub where_any : (c : Command) (w : Option Command) (kl ql : Option (List ℕ)) (P : Command → List ℕ → List ℕ → Type 0)
+    → Some c ≡ w → ((a b : List ℕ) → P c a b) → IfSome w (λ c. IfSome kl (λ a. IfSome ql (λ b. P c a b)))
+where_any c w kl ql P is p = where_taken c w (λ c. IfSome kl (λ a. IfSome ql (λ b. P c a b))) is (whatever_told kl ql (P c) p)
+
+-- what is said where the second source does not tell
+pub where_untold : (kl : Option (List ℕ)) → IfSome kl (λ a. Unit {0})
+where_untold None = tt
+where_untold (Some a) = tt
+
 -- for the top call
-pub ruleset tops = (on_true, usage_of_taken, where_taken, preview-unblamed_store, preview-unblamed_note, encode-unblamed_store, seal-unblamed_store, seal-unblamed_note, sample-unblamed_keys, sample-unblamed_input, sample-unblamed_store, sample-keys_unread, sample-input_unread, source-same, source-unused, sink-same, sink-unblamed, store-same, store-unblamed)
+pub ruleset tops = (on_true, usage_of_taken, where_taken, preview-unblamed_store, preview-unblamed_note, encode-unblamed_store, seal-unblamed_store, seal-unblamed_note, view-unblamed_note, sample-unblamed_keys, sample-unblamed_input, sample-unblamed_store, sample-keys_unread, sample-input_unread, source-same, source-unused, sink-same, sink-unblamed, store-same, store-unblamed, unasked)

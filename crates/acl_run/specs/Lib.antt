@@ -6,6 +6,8 @@ pub mod Outcomes
 pub mod Preview
 pub mod Readers
 pub mod Reading
+pub mod Opening
+pub mod Headline
 pub mod Request
 pub mod Seal
 pub mod Steps

@@ -4,6 +4,8 @@ use Rattle.esis_lines.specs.declared.doc_fault.DocFault.{DocFault}
 use Rattle.licence.specs.declared.fault.LicenceFault.{LicenceFault}
 use Rattle.licence.specs.declared.keys.KeysError.{KeysError}
 use Rattle.skip_encode.specs.declared.fault.EncodeFault.{EncodeFault}
+use Rattle.acl_outside.specs.declared.read_fault.ReadFault.{ReadFault}
+use Rattle.file_reading.specs.declared.fault.FileFault.{FileFault}
 
 -- the outcome of what stands between a source and a document
 abbrev pub outcome_of_fault : DocFault → Outcome
@@ -38,3 +40,18 @@ abbrev pub outcome_of_encode_fault : EncodeFault → Outcome
 outcome_of_encode_fault EncodeFault.TooManyTags = Outcome.TooManyTags
 outcome_of_encode_fault EncodeFault.TooLarge = Outcome.TooLarge
 outcome_of_encode_fault EncodeFault.NoMemory = Outcome.NoMemory
+
+-- the outcome of what stands between a store and bytes that are taken of it
+abbrev pub outcome_of_read_fault : ReadFault → Outcome
+outcome_of_read_fault ReadFault.BadHeader = Outcome.BadHeader
+outcome_of_read_fault (ReadFault.WrongRoot want made) = Outcome.WrongRoot want made
+outcome_of_read_fault (ReadFault.WrongKey want made) = Outcome.WrongKey want made
+outcome_of_read_fault (ReadFault.StoreShort at) = Outcome.StoreShort at
+outcome_of_read_fault ReadFault.StoreFault = Outcome.StoreFault
+outcome_of_read_fault (ReadFault.BadFragment index want made) = Outcome.BadFragment index want made
+outcome_of_read_fault ReadFault.BadIndex = Outcome.BadIndex
+
+-- the outcome of what stands between a store and the document of its file
+abbrev pub outcome_of_file_fault : FileFault → Outcome
+outcome_of_file_fault (FileFault.Refused fault) = outcome_of_read_fault fault
+outcome_of_file_fault FileFault.NoMemory = Outcome.NoMemory

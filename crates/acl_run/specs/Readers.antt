@@ -8,7 +8,7 @@ use Rattle.esis_lines.specs.Answers.{answer_within, most_document_bytes}
 use Rattle.licence.specs.Body.{read_body_of}
 use Rattle.licence.specs.Forms.{◌>>=◌}
 use Rattle.licence.specs.Keys.{read_keys_of}
-use Rattle.licence.specs.Sealed.{sealed_text_of}
+use Rattle.licence.specs.Sealed.{read_licence_of, sealed_text_of}
 use Rattle.licence.specs.declared.keys.Keys.{Keys}
 use Rattle.licence.specs.declared.terms.Licence.{Licence}
 use Rattle.skip_encode.specs.PlainStream.{sections_size}
@@ -55,6 +55,11 @@ encodable_of bytes = document_of bytes >>= with_file
 unfoldable pub sealed_of : List ℕ → List ℕ → Result (List ℕ) Outcome
 sealed_of key bytes =
     read_within most_key_bytes (result_map_both (λ text. text) outcome_of_licence_fault (sealed_text_of bytes key)) bytes
+
+-- The licence that these sealed bytes say under this key.
+unfoldable pub sealed_licence_of : List ℕ → List ℕ → Result Licence Outcome
+sealed_licence_of key bytes =
+    read_within most_key_bytes (result_map_both (λ licence. licence) outcome_of_licence_fault (read_licence_of bytes key)) bytes
 
 -- ---- a query
 

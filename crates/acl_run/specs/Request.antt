@@ -10,7 +10,7 @@ use Rattle.acl_run.specs.declared.options.Reading.{Reading}
 use Rattle.acl_run.specs.declared.request.Shown.{Shown}
 use Rattle.acl_run.specs.declared.request.Shown.TheVariants.{View, Answer, Explanation}
 use Rattle.acl_run.specs.declared.request.Request.{Request}
-use Rattle.acl_run.specs.declared.request.Request.TheVariants.{Preview, Encode, Seal, Sample}
+use Rattle.acl_run.specs.declared.request.Request.TheVariants.{Preview, Encode, Seal, View as AView, Sample}
 
 -- what is to be shown
 abbrev pub meant_shown : Shown → word.Shown
@@ -23,6 +23,7 @@ abbrev pub command_of : Request → word.Command
 command_of (Preview shown) = word.Command.preview (meant_shown shown)
 command_of Encode = word.Command.encode
 command_of Seal = word.Command.seal
+command_of (AView shown) = word.Command.view (meant_shown shown)
 command_of (Sample size) = word.Command.sample size
 
 -- What a request for a sample asks for can be made: it has 1 to 20,000 folders.
@@ -30,6 +31,7 @@ abbrev pub CanBeMade : Request → Type 0
 CanBeMade (Preview shown) = Unit {0}
 CanBeMade Encode = Unit {0}
 CanBeMade Seal = Unit {0}
+CanBeMade (AView shown) = Unit {0}
 CanBeMade (Sample size) = (1 ≤ size) × (size ≤ 20000)
 
 -- the options that are given

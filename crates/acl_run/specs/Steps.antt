@@ -3,7 +3,7 @@ use Rattle.std.specs.Prelude.{◌≡◌, ℕ, Bool, true, false, not, ◌&&◌, 
 use Rattle.std.specs.Bool.{OnFalse}
 use Rattle.std.specs.List.{list_any}
 use Rattle.acl_outcome.specs.declared.outcome.Outcome.{Outcome}
-use Rattle.acl_outcome.specs.Ends.{Object, is_same}
+use Rattle.acl_outcome.specs.Ends.{Object, store, is_same}
 use Rattle.acl_outcome.specs.Ends.{Subject, a_length, a_document, a_seal, a_licence, some_states, a_query, some_keys, a_size, a_file}
 use Rattle.acl_outcome.specs.Ends.{End, done, no_memory, usage, fault, stopped, refused, end_of}
 
@@ -17,6 +17,7 @@ pub data Question : Type 0 where
   has_file : Question  -- has the document of the input a file?
   are_keys : Question  -- are those of the keys keys?
   is_body : Question  -- are those of the input the body of a licence?
+  is_licence : Question  -- are those of the input a licence with its seal?
 
 -- what the bytes say to a question
 pub data Finding : Type 0 where
@@ -28,6 +29,7 @@ pub data Finding : Type 0 where
 pub data Step : Type 0 where
   reads : Object → Step  -- the source is read to its end
   asks : Question → Finding → Step  -- what was read is asked, and this is found
+  opens : Step  -- the document of the store's file is read, under a key and a root
   makes : Step  -- what is to be written is made in memory
   writes : Object → Step  -- the text that is due there is written
 
@@ -99,6 +101,27 @@ may_refuse is_body a_query = false
 may_refuse is_body some_keys = false
 may_refuse is_body a_size = false
 may_refuse is_body a_file = false
+may_refuse is_licence a_length = true
+may_refuse is_licence a_document = false
+may_refuse is_licence a_seal = true
+may_refuse is_licence a_licence = true
+may_refuse is_licence some_states = true
+may_refuse is_licence a_query = false
+may_refuse is_licence some_keys = false
+may_refuse is_licence a_size = false
+may_refuse is_licence a_file = false
+
+-- whether a refusal speaks of the bytes of a store
+abbrev pub is_of_store : Subject → Bool
+is_of_store a_length = false
+is_of_store a_document = false
+is_of_store a_seal = false
+is_of_store a_licence = false
+is_of_store some_states = false
+is_of_store a_query = false
+is_of_store some_keys = false
+is_of_store a_size = false
+is_of_store a_file = true
 
 -- whether a refusal may follow where this was found
 abbrev pub is_open : Finding → Bool
@@ -106,7 +129,8 @@ is_open good = false
 is_open (bad refusal) = true
 is_open unknown = true
 
--- Whether a run may end so at this step. A reading, a question and what is made may want memory; no writing does.
+-- Whether a run may end so at this step. A reading, a question, the store's file and what is made may want memory; no
+-- writing does.
 abbrev pub may_end_at : Step → End → Bool
 may_end_at (reads x) done = false
 may_end_at (reads x) no_memory = true
@@ -120,6 +144,12 @@ may_end_at (asks question finding) usage = false
 may_end_at (asks question finding) (fault y) = false
 may_end_at (asks question finding) stopped = false
 may_end_at (asks question finding) (refused subject) = may_refuse question subject && is_open finding
+may_end_at opens done = false
+may_end_at opens no_memory = true
+may_end_at opens usage = false
+may_end_at opens (fault y) = is_same store y
+may_end_at opens stopped = false
+may_end_at opens (refused subject) = is_of_store subject
 may_end_at makes done = false
 may_end_at makes no_memory = true
 may_end_at makes usage = false
@@ -156,6 +186,7 @@ may_end_from steps e = is_done e || may_end_in steps e
 abbrev pub is_reading_of : Object → Step → Bool
 is_reading_of x (reads y) = is_same x y
 is_reading_of x (asks question finding) = false
+is_reading_of x opens = false
 is_reading_of x makes = false
 is_reading_of x (writes y) = false
 
@@ -163,10 +194,20 @@ is_reading_of x (writes y) = false
 abbrev pub is_writing_to : Object → Step → Bool
 is_writing_to x (reads y) = false
 is_writing_to x (asks question finding) = false
+is_writing_to x opens = false
 is_writing_to x makes = false
 is_writing_to x (writes y) = is_same x y
 
--- whether a run ends so before the first step that passes the test, and never at it or behind it
+-- The step opens the store, and this object is that.
+abbrev pub is_opening_of : Object → Step → Bool
+is_opening_of x (reads y) = false
+is_opening_of x (asks question finding) = false
+is_opening_of x opens = is_same x store
+is_opening_of x makes = false
+is_opening_of x (writes y) = false
+
+-- whether a run ends so before the first step that passes the test, and never at it or behind it; where no step does, each end
+-- is before it
 abbrev pub is_before : (Step → Bool) → List Step → End → Bool
 is_before test [] e = true
 is_before test (step ∷ steps) e = if test step then not (may_end_from (step ∷ steps) e) else is_before test steps e
@@ -205,6 +246,15 @@ OrRefusalOf question (fault x) fact = fact
 OrRefusalOf question stopped fact = fact
 OrRefusalOf question (refused subject) fact = OnFalse (may_refuse question subject) fact
 
+-- The run ended by a refusal of the store's bytes, or else the fact holds.
+abbrev pub OrStoreRefusal : End → Type 0 → Type 0
+OrStoreRefusal done fact = fact
+OrStoreRefusal no_memory fact = fact
+OrStoreRefusal usage fact = fact
+OrStoreRefusal (fault x) fact = fact
+OrStoreRefusal stopped fact = fact
+OrStoreRefusal (refused subject) fact = OnFalse (is_of_store subject) fact
+
 -- All was done.
 abbrev pub IsDone : End → Type 0
 IsDone done = Unit {0}
@@ -216,12 +266,13 @@ IsDone (refused subject) = ⊥
 
 -- The run ended at this step, or it passed it and the fact holds of the later ones. Where bytes are refused, each run
 -- that comes so far ends by that refusal; where they are good, none does; and where the source does not tell them, it
--- may.
+-- may. What a store holds is told by no source, so its step may refuse it whatever they tell.
 abbrev pub EndsAtOr : Step → Outcome → End → Type 0 → Type 0
 EndsAtOr (reads x) outcome e later = OrNoMemory e (OrFaultOf x e later)
 EndsAtOr (asks question good) outcome e later = OrNoMemory e later
 EndsAtOr (asks question (bad refusal)) outcome e later = OrNoMemory e (outcome ≡ refusal)
 EndsAtOr (asks question unknown) outcome e later = OrNoMemory e (OrRefusalOf question e later)
+EndsAtOr opens outcome e later = OrNoMemory e (OrFaultOf store e (OrStoreRefusal e later))
 EndsAtOr makes outcome e later = OrNoMemory e later
 EndsAtOr (writes x) outcome e later = OrFaultOf x e later
 

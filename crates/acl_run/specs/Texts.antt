@@ -6,16 +6,18 @@ use Rattle.acl_outcome.specs.Ends.{keys, input, store, out, note, End, done, no_
 use Rattle.acl_model.specs.Text.{text}
 use Rattle.sample_maker.specs.Hospital.{hospital}
 use Rattle.sample_maker.specs.Sample.{sample_line}
-use Rattle.acl_run.specs.Command.{Command, preview, encode, seal, sample}
+use Rattle.acl_run.specs.Command.{Command, preview, encode, seal, view, sample}
 use Rattle.acl_run.specs.Encode.{encode_text, encode_note}
 use Rattle.acl_run.specs.Preview.{preview_text}
 use Rattle.acl_run.specs.Seal.{seal_text}
 
--- the text that is due on the output, for what the keys and the input hold
+-- The text that is due on the output, for what the keys and the input hold. Where a store is opened, these alone don't make a
+-- text: what is due of a document is `wanted_text`, and which documents these may be stands in `Headline`.
 abbrev pub due_out : Command → List ℕ → List ℕ → List ℕ
 due_out (preview what) rules lines = preview_text what rules lines
 due_out encode secret lines = encode_text secret lines
 due_out seal secret body = seal_text secret body
+due_out (view what) secret sealed = []
 due_out (sample size) rules lines = text (hospital size)
 
 -- the text that is due as a note
@@ -23,6 +25,7 @@ abbrev pub due_note : Command → List ℕ → List ℕ → List ℕ
 due_note (preview what) rules lines = []
 due_note encode secret lines = encode_note secret lines
 due_note seal secret body = []
+due_note (view what) secret sealed = []
 due_note (sample size) rules lines = sample_line size
 
 -- The fact holds where the whole of the output was written: all is done, or only the note failed.

@@ -5,7 +5,7 @@ use Rattle.std.specs.Option.{option_map, option_and_then}
 use Rattle.std.specs.Char.{is_ascii_digit}
 use Rattle.std.specs.List.{list_all}
 use Rattle.std.specs.Str.Parse.{digits_value}
-use Rattle.acl_run.specs.Command.{Command, Shown, the_view, an_answer, an_explanation, preview, encode, seal, sample}
+use Rattle.acl_run.specs.Command.{Command, Shown, the_view, an_answer, an_explanation, preview, encode, seal, view, sample}
 use Rattle.acl_run.specs.Options.{Options, is_word, options_of}
 
 -- ---- `preview RULES [--query P] [--explain]`
@@ -42,6 +42,32 @@ seal_of [] = None
 seal_of (keys ∷ []) = Some seal
 seal_of (keys ∷ word ∷ words) = None
 
+-- ---- `view KEYS STORE [--query P]`
+
+-- What is shown by `view`: the answer of the query that is given, or else the view.
+abbrev pub viewed_by : Option (List ℕ) → Shown
+viewed_by None = the_view
+viewed_by (Some query) = an_answer query
+
+-- `view` with these options, of which `--explain` is none
+abbrev pub view_with : Options → Option Command
+view_with options = if options.explain then None else Some (view (viewed_by options.query))
+
+-- `KEYS`, `STORE` and options. KEYS and STORE are taken as they stand.
+abbrev pub view_of : List (List ℕ) → Option Command
+view_of [] = None
+view_of (keys ∷ []) = None
+view_of (keys ∷ store ∷ options) = option_and_then view_with (options_of options)
+
+-- ---- `explain KEYS STORE`
+
+-- `KEYS` and `STORE`, taken as they stand, and no option
+abbrev pub explain_of : List (List ℕ) → Option Command
+explain_of [] = None
+explain_of (keys ∷ []) = None
+explain_of (keys ∷ store ∷ []) = Some (view an_explanation)
+explain_of (keys ∷ store ∷ word ∷ words) = None
+
 -- ---- `sample N`
 
 -- The first byte is a '0'.
@@ -76,5 +102,7 @@ words_of (name ∷ words) =
     if is_word name (codes "preview") then preview_of words
     else if is_word name (codes "encode") then encode_of words
     else if is_word name (codes "seal") then seal_of words
+    else if is_word name (codes "view") then view_of words
+    else if is_word name (codes "explain") then explain_of words
     else if is_word name (codes "sample") then sample_of words
     else None

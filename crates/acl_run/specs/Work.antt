@@ -6,11 +6,11 @@ use Rattle.std.specs.List.{list_any}
 use Rattle.esis_lines.specs.Answers.{most_document_bytes}
 use Rattle.licence.specs.Forms.{◌>>=◌}
 use Rattle.acl_outcome.specs.declared.outcome.Outcome.{Outcome}
-use Rattle.acl_outcome.specs.Ends.{Object, keys, input, out, note, End, end_of}
-use Rattle.acl_run.specs.Command.{Command, Shown, the_view, an_answer, an_explanation, preview, encode, seal, sample}
-use Rattle.acl_run.specs.Readers.{licence_of, keys_of, document_of, encodable_of, query_of, most_key_bytes}
-use Rattle.acl_run.specs.Steps.{Step, reads, asks, makes, writes, are_rules, is_query, is_document, has_file, are_keys, is_body, Finding, good, finding_of}
-use Rattle.acl_run.specs.Steps.{is_reading_of, is_writing_to, may_end_in, may_end_from, is_before, is_behind}
+use Rattle.acl_outcome.specs.Ends.{Object, keys, input, store, out, note, End, end_of}
+use Rattle.acl_run.specs.Command.{Command, Shown, the_view, an_answer, an_explanation, preview, encode, seal, view, sample}
+use Rattle.acl_run.specs.Readers.{licence_of, keys_of, document_of, encodable_of, query_of, sealed_licence_of, most_key_bytes}
+use Rattle.acl_run.specs.Steps.{Step, reads, asks, opens, makes, writes, are_rules, is_query, is_document, has_file, are_keys, is_body, is_licence, Finding, good, unknown, finding_of}
+use Rattle.acl_run.specs.Steps.{is_reading_of, is_opening_of, is_writing_to, may_end_in, may_end_from, is_before, is_behind}
 
 -- ---- the steps of each command
 
@@ -19,6 +19,20 @@ abbrev pub query_finding : Shown → Option (List ℕ) → Finding
 query_finding the_view rules = good
 query_finding (an_answer query) rules = finding_of (λ bytes. licence_of bytes >>= λ licence. query_of licence.user query) rules
 query_finding an_explanation rules = good
+
+-- What is found of a sealed licence, where the keys are good: its seal is that of the seal key. Behind bad keys it is refused as
+-- they are, and where the keys don't tell their bytes nothing is known of it.
+abbrev pub licence_finding : Option (List ℕ) → Option (List ℕ) → Finding
+licence_finding None sealed = unknown
+licence_finding (Some secret) sealed = finding_of (λ bytes. keys_of secret >>= λ keys. sealed_licence_of keys.seal bytes) sealed
+
+-- What is found of a query beside a sealed licence, where one is to be answered: its user is that of the licence.
+abbrev pub sealed_query_finding : Shown → Option (List ℕ) → Option (List ℕ) → Finding
+sealed_query_finding the_view secret sealed = good
+sealed_query_finding (an_answer query) None sealed = unknown
+sealed_query_finding (an_answer query) (Some secret) sealed =
+    finding_of (λ bytes. keys_of secret >>= λ keys. sealed_licence_of keys.seal bytes >>= λ licence. query_of licence.user query) sealed
+sealed_query_finding an_explanation secret sealed = good
 
 -- The steps of each command, in order, over what the keys and the input tell.
 abbrev pub steps_of : Command → Option (List ℕ) → Option (List ℕ) → List Step
@@ -32,6 +46,10 @@ steps_of encode secret lines =
 steps_of seal secret body =
     reads keys ∷ asks are_keys (finding_of keys_of secret)
     ∷ reads input ∷ asks is_body (finding_of licence_of body) ∷ makes ∷ writes out ∷ []
+steps_of (view what) secret sealed =
+    reads keys ∷ asks are_keys (finding_of keys_of secret)
+    ∷ reads input ∷ asks is_licence (licence_finding secret sealed) ∷ asks is_query (sealed_query_finding what secret sealed)
+    ∷ opens ∷ makes ∷ writes out ∷ []
 steps_of (sample size) rules lines = makes ∷ writes out ∷ writes note ∷ []
 
 -- whether a run that is to show this may end so where it reads the query
@@ -47,6 +65,7 @@ abbrev pub keys_limit : Command → ℕ
 keys_limit (preview what) = most_key_bytes
 keys_limit encode = most_key_bytes
 keys_limit seal = most_key_bytes
+keys_limit (view what) = most_key_bytes
 keys_limit (sample size) = 0
 
 -- the most bytes that the input of a command has
@@ -54,13 +73,14 @@ abbrev pub input_limit : Command → ℕ
 input_limit (preview what) = most_document_bytes
 input_limit encode = most_document_bytes
 input_limit seal = most_key_bytes
+input_limit (view what) = most_key_bytes
 input_limit (sample size) = 0
 
 -- ---- what follows from the steps, whatever the sources tell
 
--- the objects that a command uses: it reads them or writes to them
+-- the objects that a command uses: it reads them, opens them or writes to them
 abbrev pub uses : Command → Object → Bool
-uses c x = list_any (λ step. is_reading_of x step || is_writing_to x step) (untold_steps c)
+uses c x = list_any (λ step. is_reading_of x step || (is_opening_of x step || is_writing_to x step)) (untold_steps c)
 
 -- the outcomes to which a command may come
 unfoldable pub may_end : Command → Outcome → Bool
@@ -78,6 +98,10 @@ is_behind_input c e = is_behind (is_reading_of input) (untold_steps c) e
 unfoldable pub precedes_input : Command → End → Bool
 precedes_input c e = is_before (is_reading_of input) (untold_steps c) e
 
+-- the ends to which a command comes before it opens the store; where it opens none, all of them
+unfoldable pub precedes_store : Command → End → Bool
+precedes_store c e = is_before (is_opening_of store) (untold_steps c) e
+
 -- the ends to which a command comes before the first byte of the output is written
 unfoldable pub precedes_output : Command → End → Bool
 precedes_output c e = is_before (is_writing_to out) (untold_steps c) e
@@ -90,6 +114,7 @@ precedes_note c e = is_before (is_writing_to note) (untold_steps c) e
 abbrev pub keys_for : Command → Option (List ℕ) → Option (List ℕ)
 keys_for c left = if uses c keys then left else Some []
 
--- what the input tells, where a command uses it; what it does not use is as good as empty
+-- What the input tells, where a command uses it; what it does not use is as good as empty. Where a store is opened, the sources
+-- alone don't tell what is due.
 abbrev pub input_for : Command → Option (List ℕ) → Option (List ℕ)
-input_for c left = if uses c input then left else Some []
+input_for c left = if uses c store then None else if uses c input then left else Some []

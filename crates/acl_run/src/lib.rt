@@ -9,6 +9,7 @@ mod request;
 mod sample;
 mod seal;
 mod top;
+mod view;
 mod words;
 mod writing;
 

@@ -1,6 +1,6 @@
-//! `preview`: what a document shows under a licence body, with no file between: its view, the answer of a query, or where
-//! its signs come from. The rules are read and refused first, then the query, then the document, and then the first byte
-//! is written.
+//! `preview`: what a document shows under a licence body, with no file between: its view, the answer of a query, or
+//! where its signs come from. The rules are read and refused first, then the query, then the document, and then the
+//! first byte is written.
 
 ghost use Rattle.std.specs.Prelude.{◌≡◌, ◌≤◌, ◌+◌, [], Some, None, IsTrue, IfSome, IfErr, OnOk, length};
 ghost use Rattle.std.specs.Bool.{OnTrue};
@@ -37,7 +37,7 @@ use tree_meaning::{Told, WriteViewFault, explain_tree, view_tree, write_explanat
 
 /// What is wanted of a document.
 #[derive(Debug, Drop)]
-enum Wanted {
+pub(crate) enum Wanted {
     /// Its view.
     View,
     /// What this path, a query, selects in its view.
@@ -47,7 +47,7 @@ enum Wanted {
 }
 
 /// What is wanted by a user.
-fn read_wanted(alloc: Global, shown: Shown<'_>, user: &[u8]) -> Result<Wanted, Outcome>
+pub(crate) fn read_wanted(alloc: Global, shown: Shown<'_>, user: &[u8]) -> Result<Wanted, Outcome>
     ensures answer { AnswersAlone (wanted_by user.now (meant_shown shown.entry)) result }
     ensures ends { IfErr result
         (λ outcome. IsTrue (ends_at_query (meant_shown shown.entry) (end_of outcome))) }
@@ -161,7 +161,13 @@ fn show_explanation<W: Sink>(alloc: Global, doc: &Doc, rules: &[Rule], out: &mut
 }
 
 /// Shows what is wanted of a document.
-fn show<W: Sink>(alloc: Global, doc: &Doc, rules: &[Rule], wanted: Wanted, out: &mut W) -> Outcome
+pub(crate) fn show<W: Sink>(
+    alloc: Global,
+    doc: &Doc,
+    rules: &[Rule],
+    wanted: Wanted,
+    out: &mut W,
+) -> Outcome
     requires { length rules.now ≤ most_rules }
     ensures { EndsWriting W.written W.missed W.settled W.faults result out.old out.new
         (wanted_text doc.now rules.now wanted) }

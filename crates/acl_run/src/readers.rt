@@ -1,26 +1,30 @@
 //! What a run reads: each source to its end, and then what its bytes are asked to be.
 
-ghost use Rattle.std.specs.Prelude.{◌≡◌, ◌≤◌, ◌+◌, Ok, Err, true, IsTrue, IfSome, IfOk, OnOk, IfErr, length};
+ghost use Rattle.std.specs.Prelude.{◌≡◌, ◌≤◌, ◌+◌, Ok, Err, true, IsTrue, IfSome, IfOk, OnOk, IfErr, MatchResult, length};
 ghost use Rattle.std.specs.Bool.{OnTrue};
 ghost use Rattle.std.specs.Io.KnownBytes.{IsAtEnd};
 ghost use Rattle.acl_model.specs.Document.{is_document};
 ghost use Rattle.esis_lines.specs.Answers.{TakesUpTo, most_document_bytes};
+ghost use Rattle.file_reading.specs.FileEnds.{OfHeldDocument};
+ghost use Rattle.fragment_open.specs.Told.{Told};
 ghost use Rattle.licence.specs.BodyText.{most_rules};
 ghost use Rattle.skip_encode.specs.EncodedFile.{IsFileOf};
 ghost use Rattle.acl_outcome.specs.Ends.{Object, end_of};
-ghost use Rattle.acl_run.specs.Objects.{LeavesSource};
+ghost use Rattle.acl_run.specs.Objects.{LeavesSource, LeavesStore};
 ghost use Rattle.acl_run.specs.Outcomes.{outcome_of_fault, outcome_of_licence_fault, outcome_of_keys_error};
-ghost use Rattle.acl_run.specs.Outcomes.{outcome_of_encode_fault};
-ghost use Rattle.acl_run.specs.Readers.{licence_of, keys_of, document_of, with_file, sealed_of, query_of};
+ghost use Rattle.acl_run.specs.Outcomes.{outcome_of_encode_fault, outcome_of_file_fault, outcome_of_read_fault};
+ghost use Rattle.acl_run.specs.Readers.{licence_of, keys_of, document_of, with_file, sealed_of, sealed_licence_of, query_of};
 ghost use Rattle.acl_run.specs.Readers.{most_key_bytes, is_within_limits};
+ghost use Rattle.acl_run.specs.Opening.{IsHonestEnd, IsStoreRefused, StoreEnds, ends_opening};
 ghost use Rattle.acl_run.specs.Reading.{is_fault_in, is_about_bytes, ends_reading, ends_asking, Answers, AnswersAlone};
 ghost use Rattle.acl_run.specs.Steps.{Question, OrNoMemory};
 
 use acl_model::{Bytes, Doc, Path};
 use acl_outcome::Outcome;
-use acl_outside::Source;
+use acl_outside::{ReadFault, Source, Store};
 use esis_lines::{DocFault, ReadAllFault, read_all, read_doc};
-use licence::{Keys, KeysError, Licence, LicenceFault, read_body, seal_text};
+use file_reading::{FileFault, read_file};
+use licence::{Keys, KeysError, Licence, LicenceFault, read_body, read_licence, seal_text};
 use skip_encode::{EncodeFault, Encoded, encode_file};
 use std::alloc::Global;
 use xpath_rules::{PathError, count_states, read_path};
@@ -77,6 +81,29 @@ fn file_outcome(fault: EncodeFault) -> Outcome
         EncodeFault::TooManyTags => Outcome::TooManyTags,
         EncodeFault::TooLarge => Outcome::TooLarge,
         EncodeFault::NoMemory => Outcome::NoMemory,
+    }
+}
+
+fn read_outcome(fault: ReadFault) -> Outcome
+    ensures { result ≡ outcome_of_read_fault fault }
+{
+    match fault {
+        ReadFault::BadHeader => Outcome::BadHeader,
+        ReadFault::WrongRoot { want, made } => Outcome::WrongRoot { want, made },
+        ReadFault::WrongKey { want, made } => Outcome::WrongKey { want, made },
+        ReadFault::StoreShort { at } => Outcome::StoreShort { at },
+        ReadFault::StoreFault => Outcome::StoreFault,
+        ReadFault::BadFragment { index, want, made } => Outcome::BadFragment { index, want, made },
+        ReadFault::BadIndex => Outcome::BadIndex,
+    }
+}
+
+fn store_outcome(fault: FileFault) -> Outcome
+    ensures { result ≡ outcome_of_file_fault fault }
+{
+    match fault {
+        FileFault::Refused(fault) => read_outcome(fault),
+        FileFault::NoMemory => Outcome::NoMemory,
     }
 }
 
@@ -197,6 +224,59 @@ pub fn read_sealed<Q: Source>(
     match seal_text(alloc, bytes.as_slice(), seal_key) {
         Ok(text) => Ok(text),
         Err(fault) => Err(licence_outcome(fault)),
+    }
+}
+
+/// Reads the input to its end, and then the sealed licence that it holds.
+#[tactic(auto, unfolding(crate::specs::Readers::sealed_licence_of), using(crate::proofs::Taking::taken))]
+pub fn read_sealed_licence<Q: Source>(
+    alloc: Global,
+    input: &mut Q,
+    seal_key: &[u8; 32],
+) -> Result<Licence, Outcome>
+    ensures answer { IfSome (Q.left input.old)
+        (λ bytes. Answers Object.input (sealed_licence_of seal_key.now bytes) result) }
+    ensures ends { IfErr result
+        (λ outcome. IsTrue (ends_reading Object.input Question.is_licence (end_of outcome))) }
+    ensures few_rules { IfOk result (λ licence. length licence.rules ≤ most_rules) }
+    ensures to_the_end { OnOk result (IsAtEnd (Q.left input.new)) }
+    ensures read { OnTrue (is_about_bytes result)
+        (TakesUpTo (most_key_bytes + 1) (Q.left input.old) (Q.left input.new)) }
+    ensures source { LeavesSource Q.left Q.faults (is_fault_in Object.input result)
+        most_key_bytes input.old input.new }
+{
+    let bytes = match read_all(alloc, input, MOST_KEY_BYTES) {
+        Ok(bytes) => bytes,
+        Err(ReadAllFault::TooLong { limit }) => return Err(Outcome::InputTooLong { limit }),
+        Err(ReadAllFault::Failed) => return Err(Outcome::SourceFault),
+        Err(ReadAllFault::NoMemory) => return Err(Outcome::NoMemory),
+    };
+    match read_licence(alloc, bytes.as_slice(), seal_key) {
+        Ok(licence) => Ok(licence),
+        Err(fault) => Err(licence_outcome(fault)),
+    }
+}
+
+// ---- the store
+
+/// Reads the document of the store's file under a root and a key.
+pub fn read_store<S: Store>(
+    alloc: Global,
+    store: &mut S,
+    root: [u8; 32],
+    key: [u8; 16],
+) -> Result<Doc, Outcome>
+    ensures told { Told (S.served store.old) (S.served store.new) (StoreEnds result root key) }
+    ensures exact { Told (S.served store.old) (S.served store.new) (IsStoreRefused result root key) }
+    ensures held { OfHeldDocument (S.holds store.old) root key (λ d. MatchResult result
+        (λ doc. doc ≡ d)
+        (λ outcome. IsHonestEnd (end_of outcome))) }
+    ensures ends { IfErr result (λ outcome. IsTrue (ends_opening (end_of outcome))) }
+    ensures store { LeavesStore S.holds S.served S.faults (is_fault_in Object.store result) store.old store.new }
+{
+    match read_file(alloc, store, root, key) {
+        Ok(doc) => Ok(doc),
+        Err(fault) => Err(store_outcome(fault)),
     }
 }
 

@@ -1,6 +1,6 @@
 //! What a command line asks for.
 
-/// What `preview` shows of a document.
+/// What is shown of a document.
 #[derive(Clone, Copy)]
 pub enum Shown<'a> {
     /// The authorised view.
@@ -21,6 +21,9 @@ pub enum Request<'a> {
     Encode,
     /// `seal KEYS`: the licence body on the input, sealed with the keys of the file KEYS.
     Seal,
+    /// `view KEYS STORE [--query P]` and `explain KEYS STORE`: what is to be shown of the document whose file is in the file
+    /// STORE, under the keys of the file KEYS and the sealed licence on the input.
+    View(Shown<'a>),
     /// `sample N`: the sample document with so many folders.
     Sample(u32),
 }

@@ -1,5 +1,5 @@
-//! `seal`: a licence, made of its body and the keys. The keys are read and refused before the body, and nothing is written
-//! before all of the body was accepted.
+//! `seal`: a licence, made of its body and the keys. The keys are read and refused before the body, and nothing is
+//! written before all of the body was accepted.
 
 ghost use Rattle.std.specs.Prelude.{◌≡◌, ◌+◌, IsTrue, IfSome};
 ghost use Rattle.std.specs.Bool.{OnTrue};

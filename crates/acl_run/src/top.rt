@@ -3,23 +3,29 @@
 
 ghost use Rattle.std.specs.Prelude.{◌≡◌, ◌↔◌, ◌+◌, None, IsTrue, IfSome, IfNone, map, string_bytes};
 ghost use Rattle.std.specs.Bool.{OnTrue, OnFalse};
-ghost use Rattle.std.specs.Io.KnownBytes.{IsAtEnd};
-ghost use Rattle.acl_outside.specs.Outside.{AreAllSettled};
+ghost use Rattle.std.specs.Io.KnownBytes.{Appends, IsAtEnd};
+ghost use Rattle.acl_outside.specs.Outside.{AppendsPart, AreAllSettled};
 ghost use Rattle.esis_lines.specs.Answers.{TakesUpTo};
+ghost use Rattle.fragment_open.specs.Served.{IsRegular};
+ghost use Rattle.fragment_open.specs.Told.{Told};
 ghost use Rattle.acl_outcome.specs.Ends.{Object, end_of, is_fault_of};
+ghost use Rattle.acl_run.specs.Headline.{HasStoreCause, IsOfNoBytes, IsRefusedAsShown};
+ghost use Rattle.acl_run.specs.Headline.{OfEachDueText, OfHeldText, OfOpened};
 ghost use Rattle.acl_run.specs.Objects.{LeavesSource, LeavesSink, LeavesStore};
-ghost use Rattle.acl_run.specs.Texts.{WritesText, WritesNote, WhereWhole, WhereDone, due_out, due_note};
+ghost use Rattle.acl_run.specs.Texts.{WritesText, WritesNote, WhereWhole, WhereDone};
+ghost use Rattle.acl_run.specs.Texts.{due_out, due_note};
 ghost use Rattle.acl_run.specs.Words.{words_of};
 ghost use Rattle.acl_run.specs.Steps.{Follows};
 ghost use Rattle.acl_run.specs.Work.{steps_of, may_end, uses, keys_for, input_for};
 ghost use Rattle.acl_run.specs.Work.{is_behind_keys, is_behind_input, precedes_input};
-ghost use Rattle.acl_run.specs.Work.{keys_limit, input_limit, precedes_output, precedes_note};
+ghost use Rattle.acl_run.specs.Work.{keys_limit, input_limit, precedes_output, precedes_note, precedes_store};
 
 use crate::encode::encode;
 use crate::preview::preview;
 use crate::request::Request;
 use crate::sample::sample;
 use crate::seal::seal;
+use crate::view::view;
 use crate::words::read_words;
 use acl_outcome::Outcome;
 use acl_outside::{Sink, Source, Store};
@@ -27,15 +33,18 @@ use std::alloc::Global;
 
 /// Does what the words ask for. They are those of the command line, without the program's own name.
 ///
-/// `preview RULES [--query P] [--explain]` reads a licence body from `keys` and then a document from `input`, and writes
-/// to `out` the authorised view, or what the query P selects in it, or where the signs come from. `encode KEYS` reads keys
-/// from `keys` and then a document from `input`, and writes the document's file to `out`, and then its root to `note`.
-/// `seal KEYS` reads keys from `keys` and then a licence body from `input`, and writes the sealed licence to `out`.
-/// `sample N` writes the lines of the sample document with N folders to `out`, and then its numbers to `note`.
+/// `preview RULES [--query P] [--explain]` reads a licence body from `keys` and then a document from `input`, and
+/// writes to `out` the authorised view, or what the query P selects in it, or where the signs come from.
+/// `encode KEYS` reads keys from `keys` and then a document from `input`, and writes the document's file to `out`,
+/// and then its root to `note`. `seal KEYS` reads keys from `keys` and then a licence body from `input`, and writes
+/// the sealed licence to `out`. `view KEYS STORE [--query P]` and `explain KEYS STORE` read keys from `keys`, a
+/// sealed licence from `input` and the whole file of a document from `store`, and write to `out` the authorised view,
+/// or what the query P selects in it, or where the signs come from. `sample N` writes the lines of the sample
+/// document with N folders to `out`, and then its numbers to `note`.
 ///
-/// Keys and bodies have at most 131,072 bytes, and a document at most 33,554,432. A document that is to be encoded has at
-/// most 256 names, and its dictionary and its tree have together at most 33,554,432 bytes. What is read first is refused
-/// first, and all that is read before the first byte is written. No command uses `store`.
+/// Keys, bodies and sealed licences have at most 131,072 bytes, and a document at most 33,554,432. A document that is
+/// to be encoded has at most 256 names, and its dictionary and its tree have together at most 33,554,432 bytes. What
+/// is read first is refused first, and all of it is read before the first byte is written.
 #[tactic(auto, using(crate::proofs::TopSteps::tops))]
 pub fn run<K: Source, Q: Source, S: Store, W: Sink, N: Sink>(
     alloc: Global,
@@ -77,6 +86,37 @@ pub fn run<K: Source, Q: Source, S: Store, W: Sink, N: Sink>(
     ensures unnoted { IfSome (words_of (map string_bytes words.now))
         (λ c. OnTrue (precedes_note c (end_of result)) (note.new ≡ note.old)) }
 
+    // What a store that nobody trusts is worth: a front part of the text that is due of each document whose encoding
+    // has the licence's root, and the whole of it where all was written, or a clash of digests with that document. A
+    // store that holds the encoding is not refused. The reads are the first of those that the file's format fixes.
+    // Where they show why the store is to be refused it is refused for that, and each refusal of it has its cause in
+    // them.
+    ensures prefix { IfSome (words_of (map string_bytes words.now)) (λ c.
+        IfSome (K.left keys.old) (λ secret. IfSome (Q.left input.old) (λ sealed.
+        Told (S.served store.old) (S.served store.new) (λ reads.
+        OfEachDueText c secret sealed reads (λ text.
+        AppendsPart (W.written out.old) (W.written out.new) text))))) }
+    ensures whole { IfSome (words_of (map string_bytes words.now)) (λ c.
+        IfSome (K.left keys.old) (λ secret. IfSome (Q.left input.old) (λ sealed.
+        Told (S.served store.old) (S.served store.new) (λ reads.
+        OfEachDueText c secret sealed reads (λ text.
+        WhereWhole (end_of result) (Appends (W.written out.old) (W.written out.new) text)))))) }
+    ensures honest { IfSome (words_of (map string_bytes words.now)) (λ c.
+        IfSome (K.left keys.old) (λ secret. IfSome (Q.left input.old) (λ sealed.
+        OfHeldText c secret sealed (S.holds store.old) (λ text. IsOfNoBytes (end_of result)
+        × WhereWhole (end_of result) (Appends (W.written out.old) (W.written out.new) text))))) }
+    ensures regular { Told (S.served store.old) (S.served store.new) IsRegular }
+    ensures store_cause { IfSome (words_of (map string_bytes words.now)) (λ c.
+        IfSome (K.left keys.old) (λ secret. IfSome (Q.left input.old) (λ sealed.
+        Told (S.served store.old) (S.served store.new) (λ reads.
+        OfOpened c secret sealed (λ keys licence wanted.
+        HasStoreCause result licence.root keys.document reads))))) }
+    ensures refused { IfSome (words_of (map string_bytes words.now)) (λ c.
+        IfSome (K.left keys.old) (λ secret. IfSome (Q.left input.old) (λ sealed.
+        Told (S.served store.old) (S.served store.new) (λ reads.
+        OfOpened c secret sealed (λ keys licence wanted.
+        IsRefusedAsShown result licence.root keys.document reads))))) }
+
     // What is read: each source to its end, or one byte past its limit, and the input only behind good keys.
     ensures keys_read { IfSome (words_of (map string_bytes words.now)) (λ c.
         OnTrue (is_behind_keys c (end_of result))
@@ -90,6 +130,8 @@ pub fn run<K: Source, Q: Source, S: Store, W: Sink, N: Sink>(
         OnTrue (uses c Object.input) (WhereWhole (end_of result) (IsAtEnd (Q.left input.new)))) }
     ensures unread { IfSome (words_of (map string_bytes words.now))
         (λ c. OnTrue (precedes_input c (end_of result)) (input.new ≡ input.old)) }
+    ensures unopened { IfSome (words_of (map string_bytes words.now))
+        (λ c. OnTrue (precedes_store c (end_of result)) (store.new ≡ store.old)) }
 
     // Each object counts a fault exactly where it is named, and an object that is not used stays as it was.
     ensures keys { IfSome (words_of (map string_bytes words.now)) (λ c.
@@ -117,6 +159,7 @@ pub fn run<K: Source, Q: Source, S: Store, W: Sink, N: Sink>(
         Some(Request::Preview(shown)) => preview(alloc, shown, keys, input, out),
         Some(Request::Encode) => encode(alloc, keys, input, out, note),
         Some(Request::Seal) => seal(alloc, keys, input, out),
+        Some(Request::View(shown)) => view(alloc, shown, keys, input, store, out),
         Some(Request::Sample(size)) => sample(alloc, size, out, note),
         None => Outcome::Usage,
     }

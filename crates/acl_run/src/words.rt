@@ -7,6 +7,7 @@ ghost use Rattle.std.specs.List.{list_all};
 ghost use Rattle.acl_run.specs.Request.{command_of, meant_options, meant_shown, CanBeMade};
 ghost use Rattle.acl_run.specs.Words.{begins_with_zero, is_numeral, is_sample_size, size_of};
 ghost use Rattle.acl_run.specs.Words.{shown_by, preview_with, preview_of, encode_of, seal_of, sample_of, words_of};
+ghost use Rattle.acl_run.specs.Words.{view_with, view_of, explain_of};
 
 use crate::options::{Options, read_options};
 use crate::request::{Request, Shown};
@@ -63,6 +64,41 @@ fn read_seal(words: &[String]) -> Option<Request<'_>>
 {
     match words {
         [_keys] => Some(Request::Seal),
+        _ => None,
+    }
+}
+
+// ---- view
+
+fn view_request(options: Options<'_>) -> Option<Request<'_>>
+    ensures { option_map command_of result ≡ view_with (meant_options options.entry) }
+{
+    match (options.query, options.explain) {
+        (None, false) => Some(Request::View(Shown::View)),
+        (Some(query), false) => Some(Request::View(Shown::Answer(query))),
+        (_, true) => None,
+    }
+}
+
+fn read_view(words: &[String]) -> Option<Request<'_>>
+    ensures { option_map command_of result ≡ view_of (map string_bytes words.now) }
+{
+    let [_keys, _store, options @ ..] = words else {
+        return None;
+    };
+    match read_options(options) {
+        Some(options) => view_request(options),
+        None => None,
+    }
+}
+
+// ---- explain
+
+fn read_explain(words: &[String]) -> Option<Request<'_>>
+    ensures { option_map command_of result ≡ explain_of (map string_bytes words.now) }
+{
+    match words {
+        [_keys, _store] => Some(Request::View(Shown::Explanation)),
         _ => None,
     }
 }
@@ -136,6 +172,8 @@ pub fn read_words(words: &[String]) -> Option<Request<'_>>
         "preview" => read_preview(rest),
         "encode" => read_encode(rest),
         "seal" => read_seal(rest),
+        "view" => read_view(rest),
+        "explain" => read_explain(rest),
         "sample" => read_sample(rest),
         _ => None,
     }

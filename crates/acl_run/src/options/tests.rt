@@ -1,67 +1,51 @@
 //! The options: what is read of each form.
 
 use super::*;
-use std::alloc::Global;
-use std::test::Fail;
+use crate::tests::words;
+use std::process::Abort;
 
-fn words(alloc: Global, text: &str) -> Result<Vec<String>, Fail> {
-    let mut words = Vec::new(alloc);
-    for word in text.split(';') {
-        words.push(String::from_str(alloc, word)?)?;
-    }
-    Ok(words)
+/// These words are read as this query, or as none where it is empty, with or without `--explain`.
+fn assert_read<R: Abort + AllocGlobal>(rt: &R, text: &str, query: &str, explain: bool) {
+    let words = words(rt, text);
+    let options = read_options(words.as_slice()).expect(rt, "options");
+    assert_eq!(rt; options.query.unwrap_or(&[]), query.as_bytes(), "{text}");
+    assert_eq!(rt; options.explain, explain, "{text}");
 }
 
 #[test]
-fn each_option_is_taken_once_and_in_any_order(rt: HostRuntime) -> Result<(), Fail> {
-    let alloc = rt.alloc();
-    // Words with `;` between them, the query that is read, and whether `--explain` is.
+fn each_option_is_taken_once_and_in_any_order(rt: HostRuntime) {
     for (text, query, explain) in [
-        ("--explain", None, true),
-        ("--query;/a", Some("/a"), false),
-        ("--query=/a", Some("/a"), false),
-        ("--query==", Some("="), false),
-        ("--query;a b", Some("a b"), false),
-        ("--explain;--query;/a", Some("/a"), true),
-        ("--query;/a;--explain", Some("/a"), true),
-        ("--query;explain", Some("explain"), false),
+        ("--explain", "", true),
+        ("--query;/a", "/a", false),
+        ("--query=/a", "/a", false),
+        ("--query==", "=", false),
+        ("--query;a b", "a b", false),
+        ("--explain;--query;/a", "/a", true),
+        ("--query;/a;--explain", "/a", true),
+        ("--query;explain", "explain", false),
     ] {
-        let words = words(alloc, text)?;
-        match read_options(words.as_slice()) {
-            Some(options) => {
-                assert_eq!(rt;
-                    options.query,
-                    query.map(|query| query.as_bytes()),
-                    "{text}"
-                );
-                assert_eq!(rt; options.explain, explain, "{text}");
-            }
-            None => assert!(rt; false, "{text} is refused"),
-        }
+        assert_read(&rt, text, query, explain);
     }
-    Ok(())
 }
 
 #[test]
-fn other_words_are_no_options(rt: HostRuntime) -> Result<(), Fail> {
-    let alloc = rt.alloc();
-    for text in [
-        "",
-        "explain",
-        "--Explain",
-        "--explain=",
-        "--explain;--explain",
-        "--query",
-        "--query;",
-        "--query=",
-        "--query=-",
-        "--query;--explain",
-        "--query;/a;--query;/a",
-        "--query=/a;--query=/a",
-        "--queryx",
-    ] {
-        let words = words(alloc, text)?;
+fn other_words_are_no_options(rt: HostRuntime) {
+    let lines = "
+explain
+--Explain
+--explain=
+--explain;--explain
+--query
+--query;
+--query=
+--query=-
+--query;--explain
+--query;/a;--query;/a
+--query=/a;--query=/a
+--queryx";
+    // The first line is one empty word.
+    for text in lines.split('\n') {
+        let words = words(&rt, text);
         assert!(rt; read_options(words.as_slice()).is_none(), "{text}");
     }
-    Ok(())
 }

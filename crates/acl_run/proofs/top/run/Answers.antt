@@ -4,7 +4,7 @@ use Rattle.acl_run.specs.Command.{Command}
 use Rattle.acl_run.specs.Request.{meant_shown}
 use Rattle.acl_run.specs.Words.{words_of}
 use Rattle.acl_run.proofs.Facts.{whatever_told}
-use Rattle.acl_run.proofs.TopSteps.{usage_of_taken, where_taken, no_note}
+use Rattle.acl_run.proofs.TopSteps.{usage_of_taken, where_taken, where_any, where_unread, where_untold, no_note}
 use Rattle.acl_run.proofs.top.run.Goals as goal
 
 pub returns-in-Some-Preview-clause-usage : goal.returns-in-Some-Preview-clause-usage
@@ -20,6 +20,26 @@ returns-in-Some-Preview-clause-note_text g c =
     where_taken (Command.preview (meant_shown c.in-Some-Preview.shown)) (words_of (map string_bytes c.args.words.now)) _ (search rules)
     (whatever_told (g.K.Source.left c.args.keys.now) (g.Q.Source.left c.args.input.now) _ (λ rules lines. no_note (end_of c.preview.result) (g.N.Sink.written c.args.note.now)))
 
+pub returns-in-Some-Preview-clause-prefix : goal.returns-in-Some-Preview-clause-prefix
+returns-in-Some-Preview-clause-prefix g c =
+    where_unread (Command.preview (meant_shown c.in-Some-Preview.shown)) (words_of (map string_bytes c.args.words.now)) (g.K.Source.left c.args.keys.now) (g.Q.Source.left c.args.input.now) (g.S.Store.served c.args.store.now) _ (search rules) (λ secret sealed. tt)
+
+pub returns-in-Some-Preview-clause-whole : goal.returns-in-Some-Preview-clause-whole
+returns-in-Some-Preview-clause-whole g c =
+    where_unread (Command.preview (meant_shown c.in-Some-Preview.shown)) (words_of (map string_bytes c.args.words.now)) (g.K.Source.left c.args.keys.now) (g.Q.Source.left c.args.input.now) (g.S.Store.served c.args.store.now) _ (search rules) (λ secret sealed. tt)
+
+pub returns-in-Some-Preview-clause-store_cause : goal.returns-in-Some-Preview-clause-store_cause
+returns-in-Some-Preview-clause-store_cause g c =
+    where_unread (Command.preview (meant_shown c.in-Some-Preview.shown)) (words_of (map string_bytes c.args.words.now)) (g.K.Source.left c.args.keys.now) (g.Q.Source.left c.args.input.now) (g.S.Store.served c.args.store.now) _ (search rules) (λ secret sealed. tt)
+
+pub returns-in-Some-Preview-clause-refused : goal.returns-in-Some-Preview-clause-refused
+returns-in-Some-Preview-clause-refused g c =
+    where_unread (Command.preview (meant_shown c.in-Some-Preview.shown)) (words_of (map string_bytes c.args.words.now)) (g.K.Source.left c.args.keys.now) (g.Q.Source.left c.args.input.now) (g.S.Store.served c.args.store.now) _ (search rules) (λ secret sealed. tt)
+
+pub returns-in-Some-Preview-clause-honest : goal.returns-in-Some-Preview-clause-honest
+returns-in-Some-Preview-clause-honest g c =
+    where_any (Command.preview (meant_shown c.in-Some-Preview.shown)) (words_of (map string_bytes c.args.words.now)) (g.K.Source.left c.args.keys.now) (g.Q.Source.left c.args.input.now) _ (search rules) (λ secret sealed. tt)
+
 pub returns-in-Some-Encode-clause-usage : goal.returns-in-Some-Encode-clause-usage
 returns-in-Some-Encode-clause-usage g c =
     usage_of_taken Command.encode c.encode.result (words_of (map string_bytes c.args.words.now)) c.encode.ensures.ends (search rules)
@@ -32,6 +52,26 @@ pub returns-in-Some-Encode-clause-note_text : goal.returns-in-Some-Encode-clause
 returns-in-Some-Encode-clause-note_text g c =
     where_taken Command.encode (words_of (map string_bytes c.args.words.now)) _ (search rules) c.encode.ensures.note_text
 
+pub returns-in-Some-Encode-clause-prefix : goal.returns-in-Some-Encode-clause-prefix
+returns-in-Some-Encode-clause-prefix g c =
+    where_unread Command.encode (words_of (map string_bytes c.args.words.now)) (g.K.Source.left c.args.keys.now) (g.Q.Source.left c.args.input.now) (g.S.Store.served c.args.store.now) _ (search rules) (λ secret sealed. tt)
+
+pub returns-in-Some-Encode-clause-whole : goal.returns-in-Some-Encode-clause-whole
+returns-in-Some-Encode-clause-whole g c =
+    where_unread Command.encode (words_of (map string_bytes c.args.words.now)) (g.K.Source.left c.args.keys.now) (g.Q.Source.left c.args.input.now) (g.S.Store.served c.args.store.now) _ (search rules) (λ secret sealed. tt)
+
+pub returns-in-Some-Encode-clause-store_cause : goal.returns-in-Some-Encode-clause-store_cause
+returns-in-Some-Encode-clause-store_cause g c =
+    where_unread Command.encode (words_of (map string_bytes c.args.words.now)) (g.K.Source.left c.args.keys.now) (g.Q.Source.left c.args.input.now) (g.S.Store.served c.args.store.now) _ (search rules) (λ secret sealed. tt)
+
+pub returns-in-Some-Encode-clause-refused : goal.returns-in-Some-Encode-clause-refused
+returns-in-Some-Encode-clause-refused g c =
+    where_unread Command.encode (words_of (map string_bytes c.args.words.now)) (g.K.Source.left c.args.keys.now) (g.Q.Source.left c.args.input.now) (g.S.Store.served c.args.store.now) _ (search rules) (λ secret sealed. tt)
+
+pub returns-in-Some-Encode-clause-honest : goal.returns-in-Some-Encode-clause-honest
+returns-in-Some-Encode-clause-honest g c =
+    where_any Command.encode (words_of (map string_bytes c.args.words.now)) (g.K.Source.left c.args.keys.now) (g.Q.Source.left c.args.input.now) _ (search rules) (λ secret sealed. tt)
+
 pub returns-in-Some-Seal-clause-usage : goal.returns-in-Some-Seal-clause-usage
 returns-in-Some-Seal-clause-usage g c =
     usage_of_taken Command.seal c.seal.result (words_of (map string_bytes c.args.words.now)) c.seal.ensures.ends (search rules)
@@ -40,3 +80,75 @@ pub returns-in-Some-Seal-clause-note_text : goal.returns-in-Some-Seal-clause-not
 returns-in-Some-Seal-clause-note_text g c =
     where_taken Command.seal (words_of (map string_bytes c.args.words.now)) _ (search rules)
     (whatever_told (g.K.Source.left c.args.keys.now) (g.Q.Source.left c.args.input.now) _ (λ secret body. no_note (end_of c.seal.result) (g.N.Sink.written c.args.note.now)))
+
+pub returns-in-Some-Seal-clause-prefix : goal.returns-in-Some-Seal-clause-prefix
+returns-in-Some-Seal-clause-prefix g c =
+    where_unread Command.seal (words_of (map string_bytes c.args.words.now)) (g.K.Source.left c.args.keys.now) (g.Q.Source.left c.args.input.now) (g.S.Store.served c.args.store.now) _ (search rules) (λ secret sealed. tt)
+
+pub returns-in-Some-Seal-clause-whole : goal.returns-in-Some-Seal-clause-whole
+returns-in-Some-Seal-clause-whole g c =
+    where_unread Command.seal (words_of (map string_bytes c.args.words.now)) (g.K.Source.left c.args.keys.now) (g.Q.Source.left c.args.input.now) (g.S.Store.served c.args.store.now) _ (search rules) (λ secret sealed. tt)
+
+pub returns-in-Some-Seal-clause-store_cause : goal.returns-in-Some-Seal-clause-store_cause
+returns-in-Some-Seal-clause-store_cause g c =
+    where_unread Command.seal (words_of (map string_bytes c.args.words.now)) (g.K.Source.left c.args.keys.now) (g.Q.Source.left c.args.input.now) (g.S.Store.served c.args.store.now) _ (search rules) (λ secret sealed. tt)
+
+pub returns-in-Some-Seal-clause-refused : goal.returns-in-Some-Seal-clause-refused
+returns-in-Some-Seal-clause-refused g c =
+    where_unread Command.seal (words_of (map string_bytes c.args.words.now)) (g.K.Source.left c.args.keys.now) (g.Q.Source.left c.args.input.now) (g.S.Store.served c.args.store.now) _ (search rules) (λ secret sealed. tt)
+
+pub returns-in-Some-Seal-clause-honest : goal.returns-in-Some-Seal-clause-honest
+returns-in-Some-Seal-clause-honest g c =
+    where_any Command.seal (words_of (map string_bytes c.args.words.now)) (g.K.Source.left c.args.keys.now) (g.Q.Source.left c.args.input.now) _ (search rules) (λ secret sealed. tt)
+
+pub returns-in-Some-Sample-clause-prefix : goal.returns-in-Some-Sample-clause-prefix
+returns-in-Some-Sample-clause-prefix g c =
+    where_unread (Command.sample c.in-Some-Sample.size) (words_of (map string_bytes c.args.words.now)) (g.K.Source.left c.args.keys.now) (g.Q.Source.left c.args.input.now) (g.S.Store.served c.args.store.now) _ (search rules) (λ secret sealed. tt)
+
+pub returns-in-Some-Sample-clause-whole : goal.returns-in-Some-Sample-clause-whole
+returns-in-Some-Sample-clause-whole g c =
+    where_unread (Command.sample c.in-Some-Sample.size) (words_of (map string_bytes c.args.words.now)) (g.K.Source.left c.args.keys.now) (g.Q.Source.left c.args.input.now) (g.S.Store.served c.args.store.now) _ (search rules) (λ secret sealed. tt)
+
+pub returns-in-Some-Sample-clause-store_cause : goal.returns-in-Some-Sample-clause-store_cause
+returns-in-Some-Sample-clause-store_cause g c =
+    where_unread (Command.sample c.in-Some-Sample.size) (words_of (map string_bytes c.args.words.now)) (g.K.Source.left c.args.keys.now) (g.Q.Source.left c.args.input.now) (g.S.Store.served c.args.store.now) _ (search rules) (λ secret sealed. tt)
+
+pub returns-in-Some-Sample-clause-refused : goal.returns-in-Some-Sample-clause-refused
+returns-in-Some-Sample-clause-refused g c =
+    where_unread (Command.sample c.in-Some-Sample.size) (words_of (map string_bytes c.args.words.now)) (g.K.Source.left c.args.keys.now) (g.Q.Source.left c.args.input.now) (g.S.Store.served c.args.store.now) _ (search rules) (λ secret sealed. tt)
+
+pub returns-in-Some-Sample-clause-honest : goal.returns-in-Some-Sample-clause-honest
+returns-in-Some-Sample-clause-honest g c =
+    where_any (Command.sample c.in-Some-Sample.size) (words_of (map string_bytes c.args.words.now)) (g.K.Source.left c.args.keys.now) (g.Q.Source.left c.args.input.now) _ (search rules) (λ secret sealed. tt)
+
+pub returns-in-Some-View-clause-usage : goal.returns-in-Some-View-clause-usage
+returns-in-Some-View-clause-usage g c =
+    usage_of_taken (Command.view (meant_shown c.in-Some-View.shown)) c.view.result (words_of (map string_bytes c.args.words.now)) c.view.ensures.ends (search rules)
+
+pub returns-in-Some-View-clause-text : goal.returns-in-Some-View-clause-text
+returns-in-Some-View-clause-text g c =
+    where_taken (Command.view (meant_shown c.in-Some-View.shown)) (words_of (map string_bytes c.args.words.now)) _ (search rules) (where_untold (g.K.Source.left c.args.keys.now))
+
+pub returns-in-Some-View-clause-note_text : goal.returns-in-Some-View-clause-note_text
+returns-in-Some-View-clause-note_text g c =
+    where_taken (Command.view (meant_shown c.in-Some-View.shown)) (words_of (map string_bytes c.args.words.now)) _ (search rules) (where_untold (g.K.Source.left c.args.keys.now))
+
+pub returns-in-Some-View-clause-prefix : goal.returns-in-Some-View-clause-prefix
+returns-in-Some-View-clause-prefix g c =
+    where_taken (Command.view (meant_shown c.in-Some-View.shown)) (words_of (map string_bytes c.args.words.now)) _ (search rules) c.view.ensures.prefix
+
+pub returns-in-Some-View-clause-whole : goal.returns-in-Some-View-clause-whole
+returns-in-Some-View-clause-whole g c =
+    where_taken (Command.view (meant_shown c.in-Some-View.shown)) (words_of (map string_bytes c.args.words.now)) _ (search rules) c.view.ensures.whole
+
+pub returns-in-Some-View-clause-honest : goal.returns-in-Some-View-clause-honest
+returns-in-Some-View-clause-honest g c =
+    where_taken (Command.view (meant_shown c.in-Some-View.shown)) (words_of (map string_bytes c.args.words.now)) _ (search rules) c.view.ensures.honest
+
+pub returns-in-Some-View-clause-store_cause : goal.returns-in-Some-View-clause-store_cause
+returns-in-Some-View-clause-store_cause g c =
+    where_taken (Command.view (meant_shown c.in-Some-View.shown)) (words_of (map string_bytes c.args.words.now)) _ (search rules) c.view.ensures.cause
+
+pub returns-in-Some-View-clause-refused : goal.returns-in-Some-View-clause-refused
+returns-in-Some-View-clause-refused g c =
+    where_taken (Command.view (meant_shown c.in-Some-View.shown)) (words_of (map string_bytes c.args.words.now)) _ (search rules) c.view.ensures.refused

@@ -1,0 +1,215 @@
+use Rattle.std.proofs.Common.{◌≡◌, ℕ, Ok, Err, List, subst}
+use Rattle.std.specs.Io.KnownBytes.{Appends}
+use Rattle.acl_model.specs.declared.rule.Rule.{Rule}
+use Rattle.acl_outside.specs.Outside.{AppendsPart, StoreRead}
+use Rattle.acl_outcome.specs.Ends.{end_of}
+use Rattle.fragment_open.specs.Served.{IsRegular}
+use Rattle.fragment_open.proofs.ClimbLemmas.{Told-weaker}
+use Rattle.file_reading.specs.FileEnds.{FileEnds}
+use Rattle.acl_run.specs.Command.{Command}
+use Rattle.acl_run.specs.Headline.{HasStoreCause, IsOfNoBytes, IsRefusedAsShown}
+use Rattle.acl_run.specs.Opening.{IsStoreRefused, StoreEnds}
+use Rattle.acl_run.specs.Preview.{wanted_by, wanted_text}
+use Rattle.acl_run.specs.Request.{meant_shown}
+use Rattle.acl_run.specs.Steps.{OrNoMemory}
+use Rattle.acl_run.specs.Texts.{WhereWhole, WritesText}
+use Rattle.acl_run.proofs.HeadlineLemmas.{cause_anyway, due_anyway, each_due, held_due, prefix_of_none, reads_are, unasked, unshown}
+use Rattle.acl_run.proofs.HonestEnds.{keys_honest, licence_honest, wanted_honest, store_honest, writing_prefix, writing_whole, writing_honest}
+use Rattle.acl_run.proofs.StoreEnds.{refusal_cause, refusal_regular, refused_so, unrefused_so}
+use Rattle.acl_run.proofs.ViewOrder.{ends_at_keys, ends_at_licence, ends_at_opening, ends_at_showing, ends_at_wanted}
+use Rattle.acl_run.proofs.ViewSteps.{keys-whole, licence-whole, query-whole, store-whole, keys-not_of_store, licence-not_of_store, query-not_of_store, showing-not_of_store}
+use Rattle.acl_run.proofs.view.view.Goals as goal
+
+-- ---- the order of work
+
+pub returns-in-Err-clause-order : goal.returns-in-Err-clause-order
+returns-in-Err-clause-order g c =
+    ends_at_keys (meant_shown c.args.shown) (g.K.Source.left c.args.keys.now) (g.Q.Source.left c.args.input.now) c.in-Err.outcome c.in-Err.ensures.ends c.in-Err.ensures.answer
+
+pub returns-in-Err-read_sealed_licence-clause-order : goal.returns-in-Err-read_sealed_licence-clause-order
+returns-in-Err-read_sealed_licence-clause-order g c =
+    ends_at_licence (meant_shown c.args.shown) (g.K.Source.left c.args.keys.now) (g.Q.Source.left c.args.input.now) c.in-Ok.secret c.in-Err-read_sealed_licence.outcome
+    c.in-Ok.ensures.answer c.in-Err-read_sealed_licence.ensures.ends c.in-Err-read_sealed_licence.ensures.answer
+
+pub returns-in-Err-read_wanted-clause-order : goal.returns-in-Err-read_wanted-clause-order
+returns-in-Err-read_wanted-clause-order g c =
+    ends_at_wanted (meant_shown c.args.shown) (g.K.Source.left c.args.keys.now) (g.Q.Source.left c.args.input.now) c.in-Ok.secret c.in-Err-read_wanted.outcome
+    c.in-Ok.ensures.answer c.in-Ok-read_sealed_licence.licence c.in-Ok-read_sealed_licence.ensures.answer c.in-Err-read_wanted.ensures.ends
+    (subst (λ (user : List ℕ). OrNoMemory (end_of c.in-Err-read_wanted.outcome) (wanted_by user (meant_shown c.args.shown) ≡ Err c.in-Err-read_wanted.outcome)) c.as_slice.ensures c.in-Err-read_wanted.ensures.answer)
+
+pub returns-in-Err-read_store-clause-order : goal.returns-in-Err-read_store-clause-order
+returns-in-Err-read_store-clause-order g c =
+    ends_at_opening (meant_shown c.args.shown) (g.K.Source.left c.args.keys.now) (g.Q.Source.left c.args.input.now) c.in-Ok.secret c.in-Err-read_store.outcome
+    c.in-Ok.ensures.answer c.in-Ok-read_sealed_licence.licence c.in-Ok-read_sealed_licence.ensures.answer c.in-Ok-read_wanted.wanted
+    (subst (λ (user : List ℕ). wanted_by user (meant_shown c.args.shown) ≡ Ok c.in-Ok-read_wanted.wanted) c.as_slice.ensures c.in-Ok-read_wanted.ensures.answer)
+    c.in-Err-read_store.ensures.ends
+
+pub returns-clause-order : goal.returns-clause-order
+returns-clause-order g c =
+    ends_at_showing (meant_shown c.args.shown) (g.K.Source.left c.args.keys.now) (g.Q.Source.left c.args.input.now) c.in-Ok.secret c.show.result
+    c.in-Ok.ensures.answer c.in-Ok-read_sealed_licence.licence c.in-Ok-read_sealed_licence.ensures.answer c.in-Ok-read_wanted.wanted
+    (subst (λ (user : List ℕ). wanted_by user (meant_shown c.args.shown) ≡ Ok c.in-Ok-read_wanted.wanted) c.as_slice.ensures c.in-Ok-read_wanted.ensures.answer)
+    c.show.ensures.ends
+
+-- ---- the keys are refused
+
+pub returns-in-Err-clause-prefix : goal.returns-in-Err-clause-prefix
+returns-in-Err-clause-prefix g c = prefix_of_none (Command.view (meant_shown c.args.shown)) (g.K.Source.left c.args.keys.now) (g.Q.Source.left c.args.input.now) (g.S.Store.served c.args.store.now) (g.S.Store.served c.args.store.now) IsRegular (g.W.Sink.written c.args.out.now) (unasked (g.S.Store.served c.args.store.now))
+
+pub returns-in-Err-clause-whole : goal.returns-in-Err-clause-whole
+returns-in-Err-clause-whole g c =
+    due_anyway (Command.view (meant_shown c.args.shown)) (g.K.Source.left c.args.keys.now) (g.Q.Source.left c.args.input.now) (g.S.Store.served c.args.store.now) (g.S.Store.served c.args.store.now) IsRegular
+    (λ text. WhereWhole (end_of c.in-Err.outcome) (Appends (g.W.Sink.written c.args.out.now) (g.W.Sink.written c.args.out.now) text)) (λ text. keys-whole (meant_shown c.args.shown) _ (end_of c.in-Err.outcome) c.in-Err.ensures.ends) (unasked (g.S.Store.served c.args.store.now))
+
+pub returns-in-Err-clause-honest : goal.returns-in-Err-clause-honest
+returns-in-Err-clause-honest g c = keys_honest (meant_shown c.args.shown) (g.K.Source.left c.args.keys.now) (g.Q.Source.left c.args.input.now) (g.S.Store.holds c.args.store.now) c.in-Err.outcome (λ text. Appends (g.W.Sink.written c.args.out.now) (g.W.Sink.written c.args.out.now) text) c.in-Err.ensures.ends c.in-Err.ensures.answer
+
+pub returns-in-Err-clause-regular : goal.returns-in-Err-clause-regular
+returns-in-Err-clause-regular g c = unasked (g.S.Store.served c.args.store.now)
+
+pub returns-in-Err-clause-cause : goal.returns-in-Err-clause-cause
+returns-in-Err-clause-cause g c =
+    cause_anyway (Command.view (meant_shown c.args.shown)) (g.K.Source.left c.args.keys.now) (g.Q.Source.left c.args.input.now) (g.S.Store.served c.args.store.now) (g.S.Store.served c.args.store.now) IsRegular c.in-Err.outcome (keys-not_of_store (meant_shown c.args.shown) (end_of c.in-Err.outcome) c.in-Err.ensures.ends) (unasked (g.S.Store.served c.args.store.now))
+
+pub returns-in-Err-clause-refused : goal.returns-in-Err-clause-refused
+returns-in-Err-clause-refused g c = unshown (Command.view (meant_shown c.args.shown)) (g.K.Source.left c.args.keys.now) (g.Q.Source.left c.args.input.now) (g.S.Store.served c.args.store.now) c.in-Err.outcome
+
+-- ---- the licence is refused
+
+pub returns-in-Err-read_sealed_licence-clause-prefix : goal.returns-in-Err-read_sealed_licence-clause-prefix
+returns-in-Err-read_sealed_licence-clause-prefix g c = prefix_of_none (Command.view (meant_shown c.args.shown)) (g.K.Source.left c.args.keys.now) (g.Q.Source.left c.args.input.now) (g.S.Store.served c.args.store.now) (g.S.Store.served c.args.store.now) IsRegular (g.W.Sink.written c.args.out.now) (unasked (g.S.Store.served c.args.store.now))
+
+pub returns-in-Err-read_sealed_licence-clause-whole : goal.returns-in-Err-read_sealed_licence-clause-whole
+returns-in-Err-read_sealed_licence-clause-whole g c =
+    due_anyway (Command.view (meant_shown c.args.shown)) (g.K.Source.left c.args.keys.now) (g.Q.Source.left c.args.input.now) (g.S.Store.served c.args.store.now) (g.S.Store.served c.args.store.now) IsRegular
+    (λ text. WhereWhole (end_of c.in-Err-read_sealed_licence.outcome) (Appends (g.W.Sink.written c.args.out.now) (g.W.Sink.written c.args.out.now) text)) (λ text. licence-whole (meant_shown c.args.shown) _ (end_of c.in-Err-read_sealed_licence.outcome) c.in-Err-read_sealed_licence.ensures.ends) (unasked (g.S.Store.served c.args.store.now))
+
+pub returns-in-Err-read_sealed_licence-clause-honest : goal.returns-in-Err-read_sealed_licence-clause-honest
+returns-in-Err-read_sealed_licence-clause-honest g c =
+    licence_honest (meant_shown c.args.shown) (g.K.Source.left c.args.keys.now) (g.Q.Source.left c.args.input.now) (g.S.Store.holds c.args.store.now) c.in-Ok.secret c.in-Err-read_sealed_licence.outcome (λ text. Appends (g.W.Sink.written c.args.out.now) (g.W.Sink.written c.args.out.now) text)
+    c.in-Ok.ensures.answer c.in-Err-read_sealed_licence.ensures.ends c.in-Err-read_sealed_licence.ensures.answer
+
+pub returns-in-Err-read_sealed_licence-clause-regular : goal.returns-in-Err-read_sealed_licence-clause-regular
+returns-in-Err-read_sealed_licence-clause-regular g c = unasked (g.S.Store.served c.args.store.now)
+
+pub returns-in-Err-read_sealed_licence-clause-cause : goal.returns-in-Err-read_sealed_licence-clause-cause
+returns-in-Err-read_sealed_licence-clause-cause g c =
+    cause_anyway (Command.view (meant_shown c.args.shown)) (g.K.Source.left c.args.keys.now) (g.Q.Source.left c.args.input.now) (g.S.Store.served c.args.store.now) (g.S.Store.served c.args.store.now) IsRegular c.in-Err-read_sealed_licence.outcome (licence-not_of_store (meant_shown c.args.shown) (end_of c.in-Err-read_sealed_licence.outcome) c.in-Err-read_sealed_licence.ensures.ends) (unasked (g.S.Store.served c.args.store.now))
+
+pub returns-in-Err-read_sealed_licence-clause-refused : goal.returns-in-Err-read_sealed_licence-clause-refused
+returns-in-Err-read_sealed_licence-clause-refused g c = unshown (Command.view (meant_shown c.args.shown)) (g.K.Source.left c.args.keys.now) (g.Q.Source.left c.args.input.now) (g.S.Store.served c.args.store.now) c.in-Err-read_sealed_licence.outcome
+
+-- ---- the query is refused
+
+pub returns-in-Err-read_wanted-clause-prefix : goal.returns-in-Err-read_wanted-clause-prefix
+returns-in-Err-read_wanted-clause-prefix g c = prefix_of_none (Command.view (meant_shown c.args.shown)) (g.K.Source.left c.args.keys.now) (g.Q.Source.left c.args.input.now) (g.S.Store.served c.args.store.now) (g.S.Store.served c.args.store.now) IsRegular (g.W.Sink.written c.args.out.now) (unasked (g.S.Store.served c.args.store.now))
+
+pub returns-in-Err-read_wanted-clause-whole : goal.returns-in-Err-read_wanted-clause-whole
+returns-in-Err-read_wanted-clause-whole g c =
+    due_anyway (Command.view (meant_shown c.args.shown)) (g.K.Source.left c.args.keys.now) (g.Q.Source.left c.args.input.now) (g.S.Store.served c.args.store.now) (g.S.Store.served c.args.store.now) IsRegular
+    (λ text. WhereWhole (end_of c.in-Err-read_wanted.outcome) (Appends (g.W.Sink.written c.args.out.now) (g.W.Sink.written c.args.out.now) text)) (λ text. query-whole (meant_shown c.args.shown) _ (end_of c.in-Err-read_wanted.outcome) c.in-Err-read_wanted.ensures.ends) (unasked (g.S.Store.served c.args.store.now))
+
+pub returns-in-Err-read_wanted-clause-honest : goal.returns-in-Err-read_wanted-clause-honest
+returns-in-Err-read_wanted-clause-honest g c =
+    wanted_honest (meant_shown c.args.shown) (g.K.Source.left c.args.keys.now) (g.Q.Source.left c.args.input.now) (g.S.Store.holds c.args.store.now) c.in-Ok.secret c.in-Ok-read_sealed_licence.licence c.in-Err-read_wanted.outcome (λ text. Appends (g.W.Sink.written c.args.out.now) (g.W.Sink.written c.args.out.now) text)
+    c.in-Ok.ensures.answer c.in-Ok-read_sealed_licence.ensures.answer c.in-Err-read_wanted.ensures.ends
+    (subst (λ (user : List ℕ). OrNoMemory (end_of c.in-Err-read_wanted.outcome) (wanted_by user (meant_shown c.args.shown) ≡ Err c.in-Err-read_wanted.outcome)) c.as_slice.ensures c.in-Err-read_wanted.ensures.answer)
+
+pub returns-in-Err-read_wanted-clause-regular : goal.returns-in-Err-read_wanted-clause-regular
+returns-in-Err-read_wanted-clause-regular g c = unasked (g.S.Store.served c.args.store.now)
+
+pub returns-in-Err-read_wanted-clause-cause : goal.returns-in-Err-read_wanted-clause-cause
+returns-in-Err-read_wanted-clause-cause g c =
+    cause_anyway (Command.view (meant_shown c.args.shown)) (g.K.Source.left c.args.keys.now) (g.Q.Source.left c.args.input.now) (g.S.Store.served c.args.store.now) (g.S.Store.served c.args.store.now) IsRegular c.in-Err-read_wanted.outcome (query-not_of_store (meant_shown c.args.shown) (end_of c.in-Err-read_wanted.outcome) c.in-Err-read_wanted.ensures.ends) (unasked (g.S.Store.served c.args.store.now))
+
+pub returns-in-Err-read_wanted-clause-refused : goal.returns-in-Err-read_wanted-clause-refused
+returns-in-Err-read_wanted-clause-refused g c = unshown (Command.view (meant_shown c.args.shown)) (g.K.Source.left c.args.keys.now) (g.Q.Source.left c.args.input.now) (g.S.Store.served c.args.store.now) c.in-Err-read_wanted.outcome
+
+-- ---- the store is refused
+
+pub returns-in-Err-read_store-clause-prefix : goal.returns-in-Err-read_store-clause-prefix
+returns-in-Err-read_store-clause-prefix g c = prefix_of_none (Command.view (meant_shown c.args.shown)) (g.K.Source.left c.args.keys.now) (g.Q.Source.left c.args.input.now) (g.S.Store.served c.args.store.now) (g.S.Store.served c.read_store.new.store) (StoreEnds (Err c.in-Err-read_store.outcome) c.in-Ok-read_sealed_licence.licence.root c.in-Ok.secret.document) (g.W.Sink.written c.args.out.now) c.in-Err-read_store.ensures.told
+
+pub returns-in-Err-read_store-clause-whole : goal.returns-in-Err-read_store-clause-whole
+returns-in-Err-read_store-clause-whole g c =
+    due_anyway (Command.view (meant_shown c.args.shown)) (g.K.Source.left c.args.keys.now) (g.Q.Source.left c.args.input.now) (g.S.Store.served c.args.store.now) (g.S.Store.served c.read_store.new.store) (StoreEnds (Err c.in-Err-read_store.outcome) c.in-Ok-read_sealed_licence.licence.root c.in-Ok.secret.document)
+    (λ text. WhereWhole (end_of c.in-Err-read_store.outcome) (Appends (g.W.Sink.written c.args.out.now) (g.W.Sink.written c.args.out.now) text)) (λ text. store-whole (meant_shown c.args.shown) _ (end_of c.in-Err-read_store.outcome) c.in-Err-read_store.ensures.ends) c.in-Err-read_store.ensures.told
+
+pub returns-in-Err-read_store-clause-honest : goal.returns-in-Err-read_store-clause-honest
+returns-in-Err-read_store-clause-honest g c =
+    store_honest (meant_shown c.args.shown) (g.K.Source.left c.args.keys.now) (g.Q.Source.left c.args.input.now) c.in-Ok.secret c.in-Ok-read_sealed_licence.licence c.in-Ok-read_wanted.wanted
+    (subst (λ (user : List ℕ). wanted_by user (meant_shown c.args.shown) ≡ Ok c.in-Ok-read_wanted.wanted) c.as_slice.ensures c.in-Ok-read_wanted.ensures.answer)
+    c.in-Ok.ensures.answer c.in-Ok-read_sealed_licence.ensures.answer
+    (g.S.Store.holds c.args.store.now) c.in-Err-read_store.outcome (λ text. Appends (g.W.Sink.written c.args.out.now) (g.W.Sink.written c.args.out.now) text) c.in-Err-read_store.ensures.held
+
+pub returns-in-Err-read_store-clause-regular : goal.returns-in-Err-read_store-clause-regular
+returns-in-Err-read_store-clause-regular g c =
+    Told-weaker (g.S.Store.served c.args.store.now) (g.S.Store.served c.read_store.new.store) (StoreEnds (Err c.in-Err-read_store.outcome) c.in-Ok-read_sealed_licence.licence.root c.in-Ok.secret.document) IsRegular c.in-Err-read_store.ensures.told
+    (refusal_regular c.in-Err-read_store.outcome c.in-Ok-read_sealed_licence.licence.root c.in-Ok.secret.document)
+
+pub returns-in-Err-read_store-clause-cause : goal.returns-in-Err-read_store-clause-cause
+returns-in-Err-read_store-clause-cause g c =
+    reads_are (meant_shown c.args.shown) (g.K.Source.left c.args.keys.now) (g.Q.Source.left c.args.input.now) c.in-Ok.secret c.in-Ok-read_sealed_licence.licence c.in-Ok-read_wanted.wanted
+    (subst (λ (user : List ℕ). wanted_by user (meant_shown c.args.shown) ≡ Ok c.in-Ok-read_wanted.wanted) c.as_slice.ensures c.in-Ok-read_wanted.ensures.answer)
+    c.in-Ok.ensures.answer c.in-Ok-read_sealed_licence.ensures.answer
+    (g.S.Store.served c.args.store.now) (g.S.Store.served c.read_store.new.store) (StoreEnds (Err c.in-Err-read_store.outcome) c.in-Ok-read_sealed_licence.licence.root c.in-Ok.secret.document)
+    (λ reads keys licence wanted. HasStoreCause c.in-Err-read_store.outcome licence.root keys.document reads) c.in-Err-read_store.ensures.told
+    (refusal_cause c.in-Err-read_store.outcome c.in-Ok-read_sealed_licence.licence.root c.in-Ok.secret.document)
+
+pub returns-in-Err-read_store-clause-refused : goal.returns-in-Err-read_store-clause-refused
+returns-in-Err-read_store-clause-refused g c =
+    reads_are (meant_shown c.args.shown) (g.K.Source.left c.args.keys.now) (g.Q.Source.left c.args.input.now) c.in-Ok.secret c.in-Ok-read_sealed_licence.licence c.in-Ok-read_wanted.wanted
+    (subst (λ (user : List ℕ). wanted_by user (meant_shown c.args.shown) ≡ Ok c.in-Ok-read_wanted.wanted) c.as_slice.ensures c.in-Ok-read_wanted.ensures.answer)
+    c.in-Ok.ensures.answer c.in-Ok-read_sealed_licence.ensures.answer
+    (g.S.Store.served c.args.store.now) (g.S.Store.served c.read_store.new.store) (IsStoreRefused (Err c.in-Err-read_store.outcome) c.in-Ok-read_sealed_licence.licence.root c.in-Ok.secret.document)
+    (λ reads keys licence wanted. IsRefusedAsShown c.in-Err-read_store.outcome licence.root keys.document reads) c.in-Err-read_store.ensures.exact
+    (refused_so c.in-Err-read_store.outcome c.in-Ok-read_sealed_licence.licence.root c.in-Ok.secret.document)
+
+-- ---- all was read
+
+pub returns-clause-prefix : goal.returns-clause-prefix
+returns-clause-prefix g c =
+    each_due (meant_shown c.args.shown) (g.K.Source.left c.args.keys.now) (g.Q.Source.left c.args.input.now) c.in-Ok.secret c.in-Ok-read_sealed_licence.licence c.in-Ok-read_wanted.wanted
+    (subst (λ (user : List ℕ). wanted_by user (meant_shown c.args.shown) ≡ Ok c.in-Ok-read_wanted.wanted) c.as_slice.ensures c.in-Ok-read_wanted.ensures.answer)
+    c.in-Ok.ensures.answer c.in-Ok-read_sealed_licence.ensures.answer
+    (g.S.Store.served c.args.store.now) (g.S.Store.served c.read_store.new.store) c.in-Ok-read_store.doc (λ text. AppendsPart (g.W.Sink.written c.args.out.now) (g.W.Sink.written c.show.new.out) text) c.in-Ok-read_store.ensures.told
+    (writing_prefix g.W.Sink.written (end_of c.show.result) c.args.out.now c.show.new.out (wanted_text c.in-Ok-read_store.doc c.in-Ok-read_sealed_licence.licence.rules c.in-Ok-read_wanted.wanted) c.show.ensures.ends
+    (subst (λ (rules : List Rule). WritesText (end_of c.show.result) (g.W.Sink.written c.args.out.now) (g.W.Sink.written c.show.new.out) (wanted_text c.in-Ok-read_store.doc rules c.in-Ok-read_wanted.wanted)) c.as_slice-2.ensures c.show.ensures.text)
+    c.show.ensures.unwritten)
+
+pub returns-clause-whole : goal.returns-clause-whole
+returns-clause-whole g c =
+    each_due (meant_shown c.args.shown) (g.K.Source.left c.args.keys.now) (g.Q.Source.left c.args.input.now) c.in-Ok.secret c.in-Ok-read_sealed_licence.licence c.in-Ok-read_wanted.wanted
+    (subst (λ (user : List ℕ). wanted_by user (meant_shown c.args.shown) ≡ Ok c.in-Ok-read_wanted.wanted) c.as_slice.ensures c.in-Ok-read_wanted.ensures.answer)
+    c.in-Ok.ensures.answer c.in-Ok-read_sealed_licence.ensures.answer
+    (g.S.Store.served c.args.store.now) (g.S.Store.served c.read_store.new.store) c.in-Ok-read_store.doc (λ text. WhereWhole (end_of c.show.result) (Appends (g.W.Sink.written c.args.out.now) (g.W.Sink.written c.show.new.out) text)) c.in-Ok-read_store.ensures.told
+    (writing_whole (end_of c.show.result) (g.W.Sink.written c.args.out.now) (g.W.Sink.written c.show.new.out) (wanted_text c.in-Ok-read_store.doc c.in-Ok-read_sealed_licence.licence.rules c.in-Ok-read_wanted.wanted) c.show.ensures.ends
+    (subst (λ (rules : List Rule). WritesText (end_of c.show.result) (g.W.Sink.written c.args.out.now) (g.W.Sink.written c.show.new.out) (wanted_text c.in-Ok-read_store.doc rules c.in-Ok-read_wanted.wanted)) c.as_slice-2.ensures c.show.ensures.text))
+
+pub returns-clause-honest : goal.returns-clause-honest
+returns-clause-honest g c =
+    held_due (meant_shown c.args.shown) (g.K.Source.left c.args.keys.now) (g.Q.Source.left c.args.input.now) c.in-Ok.secret c.in-Ok-read_sealed_licence.licence c.in-Ok-read_wanted.wanted
+    (subst (λ (user : List ℕ). wanted_by user (meant_shown c.args.shown) ≡ Ok c.in-Ok-read_wanted.wanted) c.as_slice.ensures c.in-Ok-read_wanted.ensures.answer)
+    c.in-Ok.ensures.answer c.in-Ok-read_sealed_licence.ensures.answer
+    (g.S.Store.holds c.args.store.now) c.in-Ok-read_store.doc (λ text. IsOfNoBytes (end_of c.show.result) × WhereWhole (end_of c.show.result) (Appends (g.W.Sink.written c.args.out.now) (g.W.Sink.written c.show.new.out) text)) c.in-Ok-read_store.ensures.held (
+      writing_honest (end_of c.show.result) c.show.ensures.ends,
+      writing_whole (end_of c.show.result) (g.W.Sink.written c.args.out.now) (g.W.Sink.written c.show.new.out) (wanted_text c.in-Ok-read_store.doc c.in-Ok-read_sealed_licence.licence.rules c.in-Ok-read_wanted.wanted) c.show.ensures.ends
+          (subst (λ (rules : List Rule). WritesText (end_of c.show.result) (g.W.Sink.written c.args.out.now) (g.W.Sink.written c.show.new.out) (wanted_text c.in-Ok-read_store.doc rules c.in-Ok-read_wanted.wanted)) c.as_slice-2.ensures c.show.ensures.text),
+    )
+
+pub returns-clause-regular : goal.returns-clause-regular
+returns-clause-regular g c = Told-weaker (g.S.Store.served c.args.store.now) (g.S.Store.served c.read_store.new.store) (FileEnds (Ok c.in-Ok-read_store.doc) c.in-Ok-read_sealed_licence.licence.root c.in-Ok.secret.document) IsRegular c.in-Ok-read_store.ensures.told (λ reads read. read.regular)
+
+pub returns-clause-cause : goal.returns-clause-cause
+returns-clause-cause g c =
+    cause_anyway (Command.view (meant_shown c.args.shown)) (g.K.Source.left c.args.keys.now) (g.Q.Source.left c.args.input.now) (g.S.Store.served c.args.store.now) (g.S.Store.served c.read_store.new.store) (FileEnds (Ok c.in-Ok-read_store.doc) c.in-Ok-read_sealed_licence.licence.root c.in-Ok.secret.document)
+    c.show.result (showing-not_of_store (meant_shown c.args.shown) (end_of c.show.result) c.show.ensures.ends) c.in-Ok-read_store.ensures.told
+
+pub returns-clause-refused : goal.returns-clause-refused
+returns-clause-refused g c =
+    reads_are (meant_shown c.args.shown) (g.K.Source.left c.args.keys.now) (g.Q.Source.left c.args.input.now) c.in-Ok.secret c.in-Ok-read_sealed_licence.licence c.in-Ok-read_wanted.wanted
+    (subst (λ (user : List ℕ). wanted_by user (meant_shown c.args.shown) ≡ Ok c.in-Ok-read_wanted.wanted) c.as_slice.ensures c.in-Ok-read_wanted.ensures.answer)
+    c.in-Ok.ensures.answer c.in-Ok-read_sealed_licence.ensures.answer
+    (g.S.Store.served c.args.store.now) (g.S.Store.served c.read_store.new.store) (IsStoreRefused (Ok c.in-Ok-read_store.doc) c.in-Ok-read_sealed_licence.licence.root c.in-Ok.secret.document)
+    (λ reads keys licence wanted. IsRefusedAsShown c.show.result licence.root keys.document reads) c.in-Ok-read_store.ensures.exact
+    (unrefused_so c.in-Ok-read_store.doc c.show.result c.in-Ok-read_sealed_licence.licence.root c.in-Ok.secret.document)
