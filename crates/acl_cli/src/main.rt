@@ -46,12 +46,22 @@ fn named_file(rt: &HostRuntime, words: &[String]) -> Option<File> {
     }
 }
 
+/// The file of the store: the one that the third word names, for the commands that open one.
+fn named_store(rt: &HostRuntime, words: &[String]) -> Option<File> {
+    match words {
+        [command, _keys, name, ..] if matches!(command.as_str(), "view" | "explain") => {
+            File::open(rt, name.as_str()).ok()
+        }
+        _ => None,
+    }
+}
+
 /// The run over the real objects. A file that no word names, or that can't be opened, is handed in as one that isn't there.
 fn run_over_streams(rt: &HostRuntime) -> Result<Outcome, Outcome> {
     let words = words_given(rt)?;
     let mut input = ReaderSource::new(input_given(rt));
     let mut keys = ReaderSource::new(named_file(rt, words.as_slice()));
-    let mut store = FileStore::new(None);
+    let mut store = FileStore::new(named_store(rt, words.as_slice()));
     let Ok(output) = BufWriter::new(rt.alloc(), rt.stdout()) else {
         return Err(Outcome::NoMemory);
     };

@@ -76,6 +76,38 @@ fn seal(alloc: Global) -> Result<Command<'static>, AllocError> {
     .arg(word(alloc, "KEYS", "File of the keys"))
 }
 
+fn view(alloc: Global) -> Result<Command<'static>, AllocError> {
+    let query = Arg::new(alloc, "P")
+        .long("query")
+        .action(ArgAction::Set)
+        .help("Writes of the view only what this path selects");
+    command(
+        alloc,
+        "view",
+        "acl view",
+        "Shows an encrypted document as a sealed licence lets it be seen",
+        "Reads the sealed licence from standard input, and writes the view's lines to standard output. The file of the\n\
+        store is checked against the licence's root as it is read.\n\n\
+        Example: acl view my.keys my.file <my.licence",
+    )?
+    .arg(word(alloc, "KEYS", "File of the keys"))?
+    .arg(word(alloc, "STORE", "The encrypted file"))?
+    .arg(query)
+}
+
+fn explain(alloc: Global) -> Result<Command<'static>, AllocError> {
+    command(
+        alloc,
+        "explain",
+        "acl explain",
+        "Writes which rule of a sealed licence decides at each element that a rule selects",
+        "Reads the sealed licence from standard input, and writes the explanation's lines to standard output.\n\n\
+        Example: acl explain my.keys my.file <my.licence",
+    )?
+    .arg(word(alloc, "KEYS", "File of the keys"))?
+    .arg(word(alloc, "STORE", "The encrypted file"))
+}
+
 fn sample(alloc: Global) -> Result<Command<'static>, AllocError> {
     command(
         alloc,
@@ -110,11 +142,15 @@ pub fn usage(alloc: Global) -> Result<String, AllocError> {
         .subcommand(preview(alloc)?)?
         .subcommand(encode(alloc)?)?
         .subcommand(seal(alloc)?)?
+        .subcommand(view(alloc)?)?
+        .subcommand(explain(alloc)?)?
         .subcommand(sample(alloc)?)?;
     let mut text = all.render_help()?;
     add_page(&mut text, preview(alloc)?)?;
     add_page(&mut text, encode(alloc)?)?;
     add_page(&mut text, seal(alloc)?)?;
+    add_page(&mut text, view(alloc)?)?;
+    add_page(&mut text, explain(alloc)?)?;
     add_page(&mut text, sample(alloc)?)?;
     text.push_str("\n")?;
     Ok(text)

@@ -14,6 +14,8 @@ fn the_page_names_each_command_and_its_words(rt: HostRuntime) -> Result<(), Fail
         "Usage: acl encode <KEYS>",
         "acl encode my.keys <my.esis >my.file",
         "Usage: acl seal <KEYS>",
+        "Usage: acl view [OPTIONS] <KEYS> <STORE>",
+        "Usage: acl explain <KEYS> <STORE>",
         "Usage: acl sample <N>",
         "docs/FORMATS.md",
     ] {
