@@ -1,0 +1,9 @@
+pub mod LevelLaws
+pub mod StepLaws
+pub mod FinishLaws
+pub mod NestLaws
+pub mod PlaceLaws
+pub mod SpotLaws
+pub mod BoundLaws
+pub mod TextLaws
+pub mod TestForms

@@ -1,0 +1,155 @@
+-- A list that spells a view document nests, whatever sets it tells; and it nests also where an
+-- element is passed over.
+use Rattle.std.proofs.Common.{◌≡◌, ℕ, ◌+◌, ◌≤◌, Bool, true, not, nat_eq, ◌&&◌, Some, List, [], ◌∷◌, ◌++◌, length, map, take, ap, sym, subst, ◌∙◌, refl, append_assoc, arith}
+use Rattle.std.specs.List.{list_all}
+use Rattle.std.specs.Cmp.{first_so, second_so}
+use Rattle.std.proofs.lemmas.List.Folds.{list_all-append}
+use Rattle.acl_bits.specs.declared.piece.Piece.{Piece}
+use Rattle.acl_model.specs.Ascii.{is_byte, line_feed}
+use Rattle.acl_model.specs.Lines.{is_within_line, lacks}
+use Rattle.acl_model.specs.Document.{is_raw_attribute, is_view_name, is_view_document, is_well_formed, item_well_formed, greatest, height, height_of_item}
+use Rattle.acl_model.specs.declared.document.Doc.{Doc}
+use Rattle.acl_model.specs.declared.document.Item.{Item}
+use Rattle.acl_model.specs.declared.document.Item.TheVariants as item
+use Rattle.acl_model.specs.declared.document.Element.{Element}
+use Rattle.acl_model.proofs.FormEquations.{well_formed_is, item_well_formed-Text, item_well_formed-Child, height_is, height_of_item-Child}
+use Rattle.acl_walk.specs.Pieces.{Joins, alone, onward}
+use Rattle.acl_walk.specs.Spelling.{SpellsAttributes, no_attribute, an_attribute, SpellsElement, an_element, SpellsItems, no_item, a_text, a_child, Spells, a_document}
+use Rattle.acl_walk.specs.Nesting.{Phase, at_start, in_head, in_content, at_finish, at_end, MayBegin, MayCome, content_phase, Nest}
+use Rattle.acl_walk.specs.Standing.{from_finish}
+use Rattle.acl_walk.specs.declared.event.Event.{Event}
+use Rattle.acl_walk.specs.declared.event.Event.TheVariants.{Begin, Attr, HeadEnd, Text, Finish, End}
+use Rattle.acl_walk.specs.TagLaws.{tag_of-within}
+
+-- ---- parts of lines fit lines
+
+both_so : (s t : Bool) → s ≡ true → t ≡ true → (s && t) ≡ true
+both_so s t p q = ap (λ b. b && t) p ∙ q
+
+fits_parts : (front back : List ℕ) → is_within_line (front ++ back) ≡ true → (is_within_line front ≡ true) × (is_within_line back ≡ true)
+fits_parts front back fits =
+    let bytes : (list_all is_byte front && list_all is_byte back) ≡ true = sym (list_all-append is_byte front back) ∙ first_so _ (lacks line_feed (front ++ back)) fits in
+    let clean : (lacks line_feed front && lacks line_feed back) ≡ true = sym (list_all-append (λ b. not (nat_eq b line_feed)) front back) ∙ second_so (list_all is_byte (front ++ back)) (lacks line_feed (front ++ back)) fits in (
+      both_so (list_all is_byte front) (lacks line_feed front) (first_so (list_all is_byte front) (list_all is_byte back) bytes) (first_so (lacks line_feed front) (lacks line_feed back) clean),
+      both_so (list_all is_byte back) (lacks line_feed back) (second_so (list_all is_byte front) (list_all is_byte back) bytes) (second_so (lacks line_feed front) (lacks line_feed back) clean),
+    )
+
+-- ---- where a root or a child may begin
+
+-- an element may begin in the phase, as far as that goes
+abbrev Starts : Phase → Type 0
+Starts at_start = Unit {0}
+Starts in_head = ⊥
+Starts in_content = Unit {0}
+Starts at_finish = ⊥
+Starts at_end = ⊥
+
+may_begin : (names deep : ℕ) (tags : List ℕ) (phase : Phase) (tag : ℕ) (below : List ℕ) → Starts phase → MayBegin names deep tags tag
+    → MayCome names deep tags phase (Begin tag below)
+may_begin names deep tags at_start tag below starts may = may
+may_begin names deep tags in_head tag below starts may = absurd starts
+may_begin names deep tags in_content tag below starts may = may
+may_begin names deep tags at_finish tag below starts may = absurd starts
+may_begin names deep tags at_end tag below starts may = absurd starts
+
+-- ---- pieces and attributes
+
+nest_attr : (names deep : ℕ) (tags : List ℕ) (bytes : List ℕ) (parts : List Piece) (rest : List Event) → Joins bytes parts → is_within_line bytes ≡ true
+    → Nest names deep tags in_head rest → Nest names deep tags in_head (map Attr parts ++ rest)
+nest_attr names deep tags bytes parts rest (alone bs short) fits nest = (fits, nest)
+nest_attr names deep tags bytes parts rest (onward front back more some short behind joins) fits nest =
+    let both = fits_parts front back fits in
+    (both.0, nest_attr names deep tags back more rest joins both.1 nest)
+
+nest_text : (names deep : ℕ) (tag : ℕ) (tags : List ℕ) (bytes : List ℕ) (parts : List Piece) (rest : List Event) → Joins bytes parts → is_within_line bytes ≡ true
+    → Nest names deep (tag ∷ tags) in_content rest → Nest names deep (tag ∷ tags) in_content (map Text parts ++ rest)
+nest_text names deep tag tags bytes parts rest (alone bs short) fits nest = (fits, nest)
+nest_text names deep tag tags bytes parts rest (onward front back more some short behind joins) fits nest =
+    let both = fits_parts front back fits in
+    (both.0, nest_text names deep tag tags back more rest joins both.1 nest)
+
+nest_attributes : (names deep : ℕ) (tags : List ℕ) (raws : List (List ℕ)) (heads rest : List Event) → SpellsAttributes raws heads → list_all is_raw_attribute raws ≡ true
+    → Nest names deep tags in_head rest → Nest names deep tags in_head (heads ++ rest)
+nest_attributes names deep tags raws heads rest no_attribute formed nest = nest
+nest_attributes names deep tags raws heads rest (an_attribute raw parts more events joins spells) formed nest =
+    let own : is_raw_attribute raw ≡ true = first_so (is_raw_attribute raw) (list_all is_raw_attribute more) formed in
+    let others : list_all is_raw_attribute more ≡ true = second_so (is_raw_attribute raw) (list_all is_raw_attribute more) formed in
+    subst (Nest names deep tags in_head) (sym (append_assoc (map Attr parts) events rest))
+    (nest_attr names deep tags raw parts (events ++ rest) joins (second_so _ (is_within_line raw) own) (nest_attributes names deep tags more events rest spells others nest))
+
+-- ---- elements
+
+-- what is known of an element's parts, where it is of the right form
+form_parts : (e : Element) → is_well_formed is_view_name e ≡ true
+    → (list_all is_raw_attribute e.attributes ≡ true) × (list_all (λ b. b) (map (item_well_formed is_view_name) e.items) ≡ true)
+form_parts e formed =
+    let all = sym (well_formed_is is_view_name e) ∙ formed in (
+      second_so _ (list_all is_raw_attribute e.attributes) (first_so _ (list_all (λ b. b) (map (item_well_formed is_view_name) e.items)) all),
+      second_so _ (list_all (λ b. b) (map (item_well_formed is_view_name) e.items)) all,
+    )
+
+mutual
+  nest_element : (names : List (List ℕ)) (deep : ℕ) (tags : List ℕ) (phase : Phase) (e : Element) (own rest : List Event) → SpellsElement names e own
+      → Starts phase → is_well_formed is_view_name e ≡ true → length tags + height e ≤ deep
+      → Nest (length names) deep tags (content_phase tags) rest → Nest (length names) deep tags phase (own ++ rest)
+  nest_element names deep tags phase e own rest (an_element ns el tag below heads contents numbered covers attributes items) starts formed low nest =
+      let parts = form_parts e formed in
+      let higher : height e ≡ greatest (map height_of_item e.items) + 1 = height_is e in
+      let inside : Nest (length names) deep (tag ∷ tags) in_content (Finish tag ∷ rest) = (refl, nest) in
+      let content : Nest (length names) deep (tag ∷ tags) in_content (contents ++ (Finish tag ∷ rest)) =
+      nest_items names deep tag tags e.items contents (Finish tag ∷ rest) items parts.1 (omega arith) inside in
+      let head : Nest (length names) deep (tag ∷ tags) in_head (heads ++ (HeadEnd ∷ (contents ++ (Finish tag ∷ rest)))) =
+      nest_attributes (length names) deep (tag ∷ tags) e.attributes heads (HeadEnd ∷ (contents ++ (Finish tag ∷ rest))) attributes parts.0 (tt, content) in
+      let grouped : (heads ++ (HeadEnd ∷ (contents ++ (Finish tag ∷ [])))) ++ rest ≡ heads ++ (HeadEnd ∷ (contents ++ (Finish tag ∷ rest))) =
+      append_assoc heads (HeadEnd ∷ (contents ++ (Finish tag ∷ []))) rest ∙ ap (λ events. heads ++ (HeadEnd ∷ events)) (append_assoc contents (Finish tag ∷ []) rest) in (
+        may_begin (length names) deep tags phase tag below starts (tag_of-within names e.name tag numbered, omega arith),
+        subst (Nest (length names) deep (tag ∷ tags) in_head) (sym grouped) head,
+      )
+
+  nest_items : (names : List (List ℕ)) (deep tag : ℕ) (tags : List ℕ) (items : List Item) (contents rest : List Event) → SpellsItems names items contents
+      → list_all (λ b. b) (map (item_well_formed is_view_name) items) ≡ true → length (tag ∷ tags) + greatest (map height_of_item items) ≤ deep
+      → Nest (length names) deep (tag ∷ tags) in_content rest → Nest (length names) deep (tag ∷ tags) in_content (contents ++ rest)
+  nest_items names deep tag tags items contents rest (no_item ns) formed low nest = nest
+  nest_items names deep tag tags items contents rest (a_text ns bytes parts more events joins spells) formed low nest =
+      let own = first_so (item_well_formed is_view_name (item.Text bytes)) (list_all (λ b. b) (map (item_well_formed is_view_name) more)) formed in
+      let others = second_so (item_well_formed is_view_name (item.Text bytes)) (list_all (λ b. b) (map (item_well_formed is_view_name) more)) formed in
+      subst (Nest (length names) deep (tag ∷ tags) in_content) (sym (append_assoc (map Text parts) events rest))
+      (nest_text (length names) deep tag tags bytes parts (events ++ rest) joins (sym (item_well_formed-Text is_view_name bytes) ∙ own)
+      (nest_items names deep tag tags more events rest spells others (omega arith) nest))
+  nest_items names deep tag tags items contents rest (a_child ns e own_events more events spelled spells) formed low nest =
+      let own = first_so (item_well_formed is_view_name (item.Child e)) (list_all (λ b. b) (map (item_well_formed is_view_name) more)) formed in
+      let others = second_so (item_well_formed is_view_name (item.Child e)) (list_all (λ b. b) (map (item_well_formed is_view_name) more)) formed in
+      let lower : height_of_item (item.Child e) ≡ height e = height_of_item-Child e in
+      subst (Nest (length names) deep (tag ∷ tags) in_content) (sym (append_assoc own_events events rest))
+      (nest_element names deep (tag ∷ tags) in_content e own_events (events ++ rest) spelled tt (sym (item_well_formed-Child is_view_name e) ∙ own) (omega arith)
+      (nest_items names deep tag tags more events rest spells others (omega arith) nest))
+
+-- ---- an element that is passed over
+
+finish_is_innermost : (names deep : ℕ) (tags : List ℕ) (phase : Phase) (tag : ℕ) → MayCome names deep tags phase (Finish tag) → take 1 tags ≡ tag ∷ []
+finish_is_innermost names deep tags at_start tag may = absurd may
+finish_is_innermost names deep tags in_head tag may = absurd may
+finish_is_innermost names deep tags in_content tag may = may
+finish_is_innermost names deep tags at_finish tag may = may
+finish_is_innermost names deep tags at_end tag may = absurd may
+
+-- From the Finish of the innermost open element on, what nested nests.
+pub nest-from_finish : (names deep : ℕ) (inner : List ℕ) (tag : ℕ) (tags : List ℕ) (phase : Phase) (events : List Event)
+    → Nest names deep (inner ++ (tag ∷ tags)) phase events → Nest names deep (tag ∷ tags) at_finish (from_finish (length inner) events)
+nest-from_finish names deep inner tag tags phase [] nest = tt
+nest-from_finish names deep inner tag tags phase (Begin t below ∷ events) nest = nest-from_finish names deep (t ∷ inner) tag tags in_head events nest.1
+nest-from_finish names deep inner tag tags phase (Attr piece ∷ events) nest = nest-from_finish names deep inner tag tags in_head events nest.1
+nest-from_finish names deep inner tag tags phase (HeadEnd ∷ events) nest = nest-from_finish names deep inner tag tags in_content events nest.1
+nest-from_finish names deep inner tag tags phase (Text piece ∷ events) nest = nest-from_finish names deep inner tag tags in_content events nest.1
+nest-from_finish names deep [] tag tags phase (Finish t ∷ events) nest = (finish_is_innermost names deep (tag ∷ tags) phase t nest.0, nest.1)
+nest-from_finish names deep (i ∷ inner) tag tags phase (Finish t ∷ events) nest = nest-from_finish names deep inner tag tags (content_phase (inner ++ (tag ∷ tags))) events nest.1
+nest-from_finish names deep inner tag tags phase (End ∷ events) nest = tt
+
+-- ---- documents
+
+-- A list that spells a view document nests, with at most as many open elements as stand in each
+-- other.
+pub nest-document : (names : List (List ℕ)) (d : Doc) (events : List Event) → Spells names (Some d) events → is_view_document d ≡ true
+    → Nest (length names) (height d.root) [] at_start events
+nest-document names d events (a_document ns doc own spells) formed =
+    nest_element names (height d.root) [] at_start d.root own (End ∷ []) spells tt (first_so (is_well_formed is_view_name d.root) _ formed) (omega arith) (tt, tt)

@@ -1,0 +1,93 @@
+-- The spots of a walk over a tree: a new one, one after a step, and one that passed over an
+-- element.
+use Rattle.std.proofs.Common.{◌≡◌, ℕ, ◌<◌, ◌≤◌, List, [], ◌∷◌, ◌++◌, length, ap, sym, subst, ◌∙◌, arith, Bor}
+use Rattle.std.proofs.lemmas.List.{length-map}
+use Rattle.acl_model.specs.declared.document.Element.{Element}
+use Rattle.acl_walk.specs.Nesting.{Nest, at_start, at_finish, tags_after, phase_after}
+use Rattle.acl_walk.specs.OpenElements.{OpenElement, tags_of, content_to_come, finish_to_come}
+use Rattle.acl_walk.specs.Standing.{StandsAt, PassesTo, from_finish}
+use Rattle.acl_walk.specs.TreeEvents.{element_events}
+use Rattle.acl_walk.specs.TreeState.{Tree, CanBeWalked}
+use Rattle.acl_walk.specs.TreeSteps.{to_come, phase_of, Steps}
+use Rattle.acl_walk.specs.TreeSpots.{EndsWith, IsSpotOf, spot_to_come, spot_place, tree_depth, tree_events}
+use Rattle.acl_walk.specs.SpellLaws.{document_events-spell}
+use Rattle.acl_walk.specs.declared.event.Event.{Event}
+use Rattle.acl_walk.specs.declared.tree_step.Now.{Now}
+use Rattle.acl_walk.specs.declared.tree_step.Now.TheVariants as now
+use Rattle.acl_walk.specs.declared.tree_spot.TreeSpot.{TreeSpot}
+use Rattle.acl_walk.proofs.FinishLaws.{from_finish-to_come}
+use Rattle.acl_walk.proofs.NestLaws.{nest-document, nest-from_finish}
+use Rattle.acl_walk.proofs.PlaceLaws.{ends-whole, ends-step, stands-step, nest-step, few-step, ends-from_finish}
+
+-- at the root, with no open element, is a spot
+pub new-is_spot : (k : Tree) (levels : List OpenElement) (root : Bor Element) → CanBeWalked k → levels ≡ [] → root.now ≡ k.doc.root
+    → IsSpotOf k (record { levels = levels; now = now.Root root })
+new-is_spot k levels root walked none same =
+    let whole : spot_to_come k (record { levels = levels; now = now.Root root }) ≡ tree_events k =
+    ap (λ e. element_events k.names e ++ content_to_come k.names levels) same ∙ ap (λ ls. element_events k.names k.doc.root ++ content_to_come k.names ls) none in
+    let nests : Nest (length k.names) (tree_depth k) [] at_start (tree_events k) =
+    nest-document k.names k.doc (tree_events k) (document_events-spell k.names k.doc walked.known) walked.formed in
+    record {
+      walked = walked;
+      rest = subst (EndsWith (tree_events k)) (sym whole) (ends-whole (tree_events k));
+      nests = subst (λ tags. Nest (length k.names) (tree_depth k) tags at_start (spot_to_come k (record { levels = levels; now = now.Root root }))) (ap tags_of (sym none))
+          (subst (Nest (length k.names) (tree_depth k) [] at_start) (sym whole) nests);
+      few_open = omega (arith, ap length none);
+      inside = tt;
+    }
+
+-- the same of a tree that is equal
+pub new-is_spot_of : (tree k : Tree) (levels : List OpenElement) (root : Bor Element) → CanBeWalked tree → tree ≡ k → levels ≡ [] → root.now ≡ tree.doc.root
+    → IsSpotOf k (record { levels = levels; now = now.Root root })
+new-is_spot_of tree k levels root walked is none same =
+    subst (λ t. IsSpotOf t (record { levels = levels; now = now.Root root })) is (new-is_spot tree levels root walked none same)
+
+-- so is the place behind a step
+pub step-is_spot : (k : Tree) (old new : TreeSpot) (event : Event) → IsSpotOf k old
+    → Steps k.names event (spot_to_come k old) (tags_of old.levels) new.now new.levels → IsSpotOf k new
+step-is_spot k old new event made steps =
+    let tags : List ℕ = tags_of old.levels in
+    let N : ℕ = length k.names in
+    let deep : ℕ = tree_depth k in
+    let next = nest-step N deep tags (phase_of old.now tags) event (spot_to_come k old) (spot_to_come k new) steps.comes made.nests in
+    let before : length tags ≡ length old.levels = length-map old.levels (λ (level : OpenElement). level.tag) in
+    let after : length (tags_of new.levels) ≡ length new.levels = length-map new.levels (λ (level : OpenElement). level.tag) in
+    let few : length (tags_after tags event) ≤ deep = few-step N deep tags (phase_of old.now tags) event next.0 (omega (arith, made.few_open)) in
+    record {
+      walked = made.walked;
+      rest = ends-step (tree_events k) event (spot_to_come k old) (spot_to_come k new) steps.comes made.rest;
+      nests = subst (λ p. Nest N deep (tags_of new.levels) p (spot_to_come k new)) (sym steps.phase)
+          (subst (λ t. Nest N deep t (phase_after tags event) (spot_to_come k new)) (sym steps.open_tags) next.1);
+      few_open = omega (arith, after, few, ap length steps.open_tags);
+      inside = steps.inside;
+    }
+
+-- the event of a step is that of the list at the spot's place
+pub step-stands : (k : Tree) (old new : TreeSpot) (event : Event) → IsSpotOf k old
+    → Steps k.names event (spot_to_come k old) (tags_of old.levels) new.now new.levels
+    → StandsAt (tree_events k) (spot_place k old) event (spot_place k new)
+step-stands k old new event made steps = stands-step (tree_events k) event (spot_to_come k old) (spot_to_come k new) steps.comes made.rest
+
+-- a spot that passes over the innermost open element stays one
+pub pass-is_spot : (k : Tree) (levels : List OpenElement) (place : Now) → 0 < length levels
+    → IsSpotOf k (record { levels = levels; now = place }) → IsSpotOf k (record { levels = levels; now = now.Finish })
+pass-is_spot k [] place some made = absurd (omega (arith, some))
+pass-is_spot k (level ∷ levels) place some made =
+    let at : from_finish 0 (to_come k.names place (level ∷ levels)) ≡ finish_to_come k.names (level ∷ levels) = from_finish-to_come k.names place level levels in
+    record {
+      walked = made.walked;
+      rest = subst (EndsWith (tree_events k)) at (ends-from_finish (tree_events k) 0 (to_come k.names place (level ∷ levels)) made.rest);
+      nests = subst (Nest (length k.names) (tree_depth k) (tags_of (level ∷ levels)) at_finish) at
+          (nest-from_finish (length k.names) (tree_depth k) [] level.tag (tags_of levels) (phase_of place (tags_of (level ∷ levels))) (to_come k.names place (level ∷ levels)) made.nests);
+      few_open = made.few_open;
+      inside = tt;
+    }
+
+-- and it is at the Finish of that element
+pub pass-to_finish : (k : Tree) (levels : List OpenElement) (place : Now) → 0 < length levels
+    → IsSpotOf k (record { levels = levels; now = place })
+    → PassesTo (tags_of levels) (tree_events k) (spot_place k (record { levels = levels; now = place })) (spot_place k (record { levels = levels; now = now.Finish }))
+pass-to_finish k [] place some made = absurd (omega (arith, some))
+pass-to_finish k (level ∷ levels) place some made =
+    let after : IsSpotOf k (record { levels = level ∷ levels; now = now.Finish }) = pass-is_spot k (level ∷ levels) place some made in
+    after.rest.same ∙ sym (ap (from_finish 0) made.rest.same ∙ from_finish-to_come k.names place level levels)

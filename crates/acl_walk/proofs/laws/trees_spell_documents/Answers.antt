@@ -1,0 +1,6 @@
+use Rattle.acl_walk.specs.PieceLaws.{pieces-join}
+use Rattle.acl_walk.specs.SpellLaws.{document_events-spell}
+use Rattle.acl_walk.proofs.laws.trees_spell_documents.Goals as goal
+
+pub returns : goal.returns
+returns c = record { pieces = pieces-join; document = document_events-spell }

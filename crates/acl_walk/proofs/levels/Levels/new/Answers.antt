@@ -1,0 +1,7 @@
+use Rattle.std.proofs.Common.{ap, ◌∙◌}
+use Rattle.acl_walk.specs.Levels.{open_elements}
+use Rattle.acl_walk.proofs.LevelLaws.{open_elements-nil}
+use Rattle.acl_walk.proofs.levels.Levels.new.Goals as goal
+
+pub returns : goal.returns
+returns c = ap open_elements c.in_ok-stack.ensures.items ∙ open_elements-nil

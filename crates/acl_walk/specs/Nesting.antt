@@ -1,0 +1,126 @@
+-- Which event may come where, whatever a walk stands for: events nest, tags are those of names,
+-- pieces fit a line, and at most so many elements are open. This project's own.
+use Rattle.std.specs.Prelude.{◌≡◌, ◌⊎◌, ℕ, ◌<◌, true, List, [], ◌∷◌, length, drop, take}
+use Rattle.acl_bits.specs.declared.piece.Piece.{Piece}
+use Rattle.acl_model.specs.Lines.{is_within_line}
+use Rattle.acl_walk.specs.declared.event.Event.{Event}
+use Rattle.acl_walk.specs.declared.event.Event.TheVariants.{Begin, Attr, HeadEnd, Text, Finish, End}
+
+-- A spot is before the first event, in the head of the innermost open element, in its content, at
+-- its Finish with all else of it left out, or past the last element.
+pub data Phase : Type 0 where
+  at_start : Phase
+  in_head : Phase
+  in_content : Phase
+  at_finish : Phase
+  at_end : Phase
+
+-- where a spot is: the tags of the open elements, the innermost first, and the phase
+pub record Stage : Type 0 where
+  pub tags : List ℕ
+  pub phase : Phase
+
+-- A tag is 256, or the place of one of so many names.
+abbrev pub IsTag : ℕ → ℕ → Type 0
+IsTag names tag = (tag < names) ⊎ (tag ≡ 256)
+
+-- An element may begin where its tag is one, and fewer elements are open than may be.
+abbrev pub MayBegin : ℕ → ℕ → List ℕ → ℕ → Type 0
+MayBegin names deep tags tag = IsTag names tag × (length tags < deep)
+
+-- A piece fits a line.
+abbrev pub FitsLine : Piece → Type 0
+FitsLine piece = is_within_line piece.bytes.items ≡ true
+
+-- It is the tag of the innermost open element.
+abbrev pub IsInnermost : List ℕ → ℕ → Type 0
+IsInnermost tags tag = take 1 tags ≡ tag ∷ []
+
+-- Which events may come in each phase, under so many names and with at most `deep` open elements:
+-- before the first event, a root begins or nothing comes; in a head there are attributes, and then
+-- its end; in a content there are texts, elements that begin, and then the Finish; at a Finish
+-- there is it alone; and past the last element, End.
+abbrev pub MayCome : ℕ → ℕ → List ℕ → Phase → Event → Type 0
+MayCome names deep tags at_start (Begin tag below) = MayBegin names deep tags tag
+MayCome names deep tags at_start (Attr piece) = ⊥
+MayCome names deep tags at_start HeadEnd = ⊥
+MayCome names deep tags at_start (Text piece) = ⊥
+MayCome names deep tags at_start (Finish tag) = ⊥
+MayCome names deep tags at_start End = Unit {0}
+MayCome names deep tags in_head (Begin tag below) = ⊥
+MayCome names deep tags in_head (Attr piece) = FitsLine piece
+MayCome names deep tags in_head HeadEnd = Unit {0}
+MayCome names deep tags in_head (Text piece) = ⊥
+MayCome names deep tags in_head (Finish tag) = ⊥
+MayCome names deep tags in_head End = ⊥
+MayCome names deep tags in_content (Begin tag below) = MayBegin names deep tags tag
+MayCome names deep tags in_content (Attr piece) = ⊥
+MayCome names deep tags in_content HeadEnd = ⊥
+MayCome names deep tags in_content (Text piece) = FitsLine piece
+MayCome names deep tags in_content (Finish tag) = IsInnermost tags tag
+MayCome names deep tags in_content End = ⊥
+MayCome names deep tags at_finish (Begin tag below) = ⊥
+MayCome names deep tags at_finish (Attr piece) = ⊥
+MayCome names deep tags at_finish HeadEnd = ⊥
+MayCome names deep tags at_finish (Text piece) = ⊥
+MayCome names deep tags at_finish (Finish tag) = IsInnermost tags tag
+MayCome names deep tags at_finish End = ⊥
+MayCome names deep tags at_end (Begin tag below) = ⊥
+MayCome names deep tags at_end (Attr piece) = ⊥
+MayCome names deep tags at_end HeadEnd = ⊥
+MayCome names deep tags at_end (Text piece) = ⊥
+MayCome names deep tags at_end (Finish tag) = ⊥
+MayCome names deep tags at_end End = Unit {0}
+
+-- An event may come at a stage.
+abbrev pub MayFollow : ℕ → ℕ → Stage → Event → Type 0
+MayFollow names deep stage event = MayCome names deep stage.tags stage.phase event
+
+-- the tags of the elements that are open behind an event
+abbrev pub tags_after : List ℕ → Event → List ℕ
+tags_after tags (Begin tag below) = tag ∷ tags
+tags_after tags (Attr piece) = tags
+tags_after tags HeadEnd = tags
+tags_after tags (Text piece) = tags
+tags_after tags (Finish tag) = drop 1 tags
+tags_after tags End = tags
+
+-- Outside a head a spot is in the content of the innermost open element, or past the last one.
+abbrev pub content_phase : List ℕ → Phase
+content_phase [] = at_end
+content_phase (tag ∷ tags) = in_content
+
+-- the phase behind an event, where these elements are open before it
+abbrev pub phase_after : List ℕ → Event → Phase
+phase_after tags (Begin tag below) = in_head
+phase_after tags (Attr piece) = in_head
+phase_after tags HeadEnd = in_content
+phase_after tags (Text piece) = in_content
+phase_after tags (Finish tag) = content_phase (drop 1 tags)
+phase_after tags End = at_end
+
+-- the stage behind an event
+abbrev pub stage_after : Stage → Event → Stage
+stage_after stage event =
+    record { tags = tags_after stage.tags event; phase = phase_after stage.tags event }
+
+-- the stage of a new spot
+abbrev pub first_stage : Stage
+first_stage = record { tags = []; phase = at_start }
+
+-- where the innermost of these elements is passed over: at its Finish; the phase stays where none
+-- is open
+abbrev pub passed_phase : List ℕ → Phase → Phase
+passed_phase [] phase = phase
+passed_phase (tag ∷ tags) phase = at_finish
+
+-- the stage of a spot that passed over the innermost open element
+abbrev pub stage_passed : Stage → Stage
+stage_passed stage = record { tags = stage.tags; phase = passed_phase stage.tags stage.phase }
+
+-- The events may come one after the other, where at first these elements are open.
+abbrev pub Nest : ℕ → ℕ → List ℕ → Phase → List Event → Type 0
+Nest names deep tags phase [] = Unit {0}
+Nest names deep tags phase (event ∷ events) =
+    MayCome names deep tags phase event
+    × Nest names deep (tags_after tags event) (phase_after tags event) events

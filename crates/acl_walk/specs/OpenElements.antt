@@ -1,0 +1,50 @@
+-- The open elements of a place in a tree, the innermost first, each with what is still to come of
+-- it. This project's own.
+use Rattle.std.specs.Prelude.{◌≡◌, ℕ, Option, Some, None, List, [], ◌∷◌, ◌++◌, map}
+use Rattle.std.specs.List.{flat_map}
+use Rattle.acl_model.specs.declared.document.Item.{Item}
+use Rattle.acl_walk.specs.TreeEvents.{item_events}
+use Rattle.acl_walk.specs.declared.event.Event.{Event}
+use Rattle.acl_walk.specs.declared.event.Event.TheVariants.{Finish, End}
+
+-- an open element: its tag, and those of its items that are still to come
+pub record OpenElement : Type 0 where
+  pub tag : ℕ
+  pub items : List Item
+
+-- the tags of open elements
+abbrev pub tags_of : List OpenElement → List ℕ
+tags_of levels = map (λ (level : OpenElement). level.tag) levels
+
+-- An item stands before those that are to come of the innermost open element.
+abbrev pub with_item : Item → List OpenElement → List OpenElement
+with_item item [] = []
+with_item item (level ∷ levels) = record { tag = level.tag; items = item ∷ level.items } ∷ levels
+
+-- Nothing is to come of the innermost open element before its Finish, or none is open.
+abbrev pub NothingLeft : List OpenElement → Type 0
+NothingLeft [] = Unit {0}
+NothingLeft (level ∷ levels) = level.items ≡ []
+
+-- The innermost open element is closed, and its tag is the answer; none is answered where none is
+-- open.
+abbrev pub Closes : Option ℕ → List OpenElement → List OpenElement → Type 0
+Closes None old new = (old ≡ []) × (new ≡ [])
+Closes (Some tag) [] new = ⊥
+Closes (Some tag) (level ∷ levels) new = (tag ≡ level.tag) × (new ≡ levels)
+
+-- the events of items, one after the other
+abbrev pub items_events : List (List ℕ) → List Item → List Event
+items_events names items = flat_map (item_events names) items
+
+-- the events to come in the content of the innermost open element and behind it: its items, its
+-- Finish, and so on for those around it; and last, one End
+abbrev pub content_to_come : List (List ℕ) → List OpenElement → List Event
+content_to_come names [] = End ∷ []
+content_to_come names (level ∷ levels) =
+    items_events names level.items ++ (Finish level.tag ∷ content_to_come names levels)
+
+-- the events to come from the Finish of the innermost open element on
+abbrev pub finish_to_come : List (List ℕ) → List OpenElement → List Event
+finish_to_come names [] = End ∷ []
+finish_to_come names (level ∷ levels) = Finish level.tag ∷ content_to_come names levels

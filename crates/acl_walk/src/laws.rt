@@ -1,0 +1,43 @@
+//! What lists of events are, told of all documents. These functions do nothing: their contracts are
+//! the laws.
+
+ghost use Rattle.std.specs.Prelude.{◌≡◌, ℕ, ◌+◌, ◌≤◌, true, false, Some, List, [], length};
+ghost use Rattle.acl_model.specs.Document.{height, is_view_document};
+ghost use Rattle.acl_model.specs.Text.{text};
+ghost use Rattle.acl_model.specs.declared.document.Doc.{Doc};
+ghost use Rattle.acl_walk.specs.EventText.{text_of_events};
+ghost use Rattle.acl_walk.specs.Nesting.{Nest, at_start};
+ghost use Rattle.acl_walk.specs.Pieces.{Joins, pieces};
+ghost use Rattle.acl_walk.specs.Spelling.{Spells};
+ghost use Rattle.acl_walk.specs.TreeEvents.{document_events};
+ghost use Rattle.acl_walk.specs.TreeState.{knows};
+ghost use Rattle.acl_walk.specs.declared.event.Event.{Event};
+
+/// A list that spells a view document nests, and at most as many elements are open as stand in each
+/// other.
+pub fn spelled_lists_nest()
+    ensures { (names : List (List ℕ)) (d : Doc) (events : List Event)
+        → Spells names (Some d) events → is_view_document d ≡ true
+        → Nest (length names) (height d.root) [] at_start events }
+{}
+
+/// The lines that a list tells are the text of the document that it spells.
+pub fn spelled_lists_tell_texts()
+    ensures { (names : List (List ℕ)) (d : Doc) (events : List Event) (tag : ℕ)
+        → length names ≤ 256 → Spells names (Some d) events
+        → text_of_events names tag false events ≡ text d }
+{}
+
+/// The events that are read from a tree spell it, where each name in it is known.
+pub fn trees_spell_documents()
+    ensures pieces { (bytes : List ℕ) → Joins bytes (pieces bytes) }
+    ensures document { (names : List (List ℕ)) (d : Doc) → knows names d ≡ true
+        → Spells names (Some d) (document_events names d) }
+{}
+
+/// A document has no more events than its text has bytes, and one End. So a text of fewer than
+/// 2^64 - 1 bytes is of a document that can be walked.
+pub fn events_are_no_more_than_bytes()
+    ensures { (names : List (List ℕ)) (d : Doc)
+        → length (document_events names d) ≤ length (text d) + 1 }
+{}
