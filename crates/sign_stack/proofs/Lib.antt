@@ -1,0 +1,3 @@
+pub mod LevelSteps
+pub mod RuleLaws
+pub mod OutcomeLaws

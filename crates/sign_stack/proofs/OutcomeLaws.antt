@@ -1,0 +1,134 @@
+-- What is said before all rows are settled holds whatever they come to be.
+use Rattle.std.proofs.Common.{◌≡◌, ℕ, zero, suc, ◌+◌, ◌<◌, ◌≤◌, Bool, true, false, cond, eqb, ◌&&◌, ◌||◌, Option, Some, None, List, [], ◌∷◌, length, get_or, refl, ap, sym, subst, ◌∙◌, arith, map, Any, eq-eqb}
+use Rattle.std.specs.Bool.{MatchBool}
+use Rattle.std.specs.List.{list_any, find}
+use Rattle.std.specs.Option.{option_or, is_some, MatchOption}
+use Rattle.std.proofs.lemmas.Bool.{true≢false, eqb-true}
+use Rattle.std.proofs.lemmas.List.Folds.{Any-from_list_any, list_any-from_Any}
+use Rattle.acl_bits.specs.Row.{is_member}
+use Rattle.acl_model.specs.declared.rule.Sign.{Sign}
+use Rattle.acl_model.specs.declared.rule.Sign.TheVariants.{Grant, Deny}
+use Rattle.sign_stack.specs.declared.level.Level.{Level}
+use Rattle.sign_stack.specs.declared.level.Verdict.{Verdict}
+use Rattle.sign_stack.specs.declared.level.Verdict.TheVariants.{Decided, Unsettled, Inherited}
+use Rattle.sign_stack.specs.Levels.{has_rule_of, verdict_at, sign_by, sign_of_levels, rule_at, rule_of_levels}
+use Rattle.sign_stack.specs.Rules.{settled_level, IsOutcome, AreOutcomes, IsUnsettled, AreSettledToDecider}
+
+none_is_not_some : {A : Type 0} (x : A) → None ≡ Some x → ⊥
+none_is_not_some x h = subst (λ o. MatchOption o (Unit {0}) (λ _. ⊥)) h tt
+
+-- ---- members
+
+-- a member that passes a test is one of some that do
+any_from_member : (f : ℕ → Bool) (xs : List ℕ) (n : ℕ) → is_member xs n ≡ true → f n ≡ true → list_any f xs ≡ true
+unfolding is_member
+any_from_member f xs n in_it passes =
+    let a : Any (λ x. eqb x n ≡ true) xs = Any-from_list_any (λ x. eqb x n) xs in_it in
+    list_any-from_Any f xs (a.0, a.1, a.2, a.3, ap f (eqb-true a.1 n a.4) ∙ passes)
+
+-- where some pass a test, a member does
+member_from_any : (f : ℕ → Bool) (xs : List ℕ) → list_any f xs ≡ true → (n : ℕ) × (is_member xs n ≡ true) × (f n ≡ true)
+unfolding is_member
+member_from_any f xs some =
+    let a : Any (λ x. f x ≡ true) xs = Any-from_list_any f xs some in
+    (a.1, list_any-from_Any (λ x. eqb x a.1) xs (a.0, a.1, a.2, a.3, eq-eqb a.1 a.1 refl), a.4)
+
+-- of more members some pass, where some of these do
+any_of_more : (f : ℕ → Bool) (xs ys : List ℕ) → ((n : ℕ) → is_member xs n ≡ true → is_member ys n ≡ true) → list_any f xs ≡ true → list_any f ys ≡ true
+any_of_more f xs ys more some =
+    let found : (n : ℕ) × (is_member xs n ≡ true) × (f n ≡ true) = member_from_any f xs some in
+    any_from_member f ys found.0 (more found.0 found.1) found.2
+
+-- where some of these pass and none of those does, one of these is none of those
+one_between : (f : ℕ → Bool) (may sure : List ℕ) → list_any f may ≡ true → list_any f sure ≡ false → (n : ℕ) × (is_member may n ≡ true) × (is_member sure n ≡ false)
+one_between f may sure some none =
+    let found : (n : ℕ) × (is_member may n ≡ true) × (f n ≡ true) = member_from_any f may some in
+    (found.0, found.1, not_member f sure found.0 (is_member sure found.0) refl found.2 none)
+  where
+    not_member : (f : ℕ → Bool) (sure : List ℕ) (n : ℕ) (b : Bool) → is_member sure n ≡ b → f n ≡ true → list_any f sure ≡ false → is_member sure n ≡ false
+    not_member f sure n true is passes none = absurd (true≢false (sym (any_from_member f sure n is passes) ∙ none))
+    not_member f sure n false is passes none = is
+
+-- ---- signs
+
+-- what rows say, by whether they surely, and whether they possibly, have a denial and a grant
+abbrev said : Bool → Bool → Bool → Bool → Verdict
+said denial denials grant grants = cond denial (Decided Deny) (cond denials Unsettled (cond grant (Decided Grant) (cond grants Unsettled Inherited)))
+
+-- a sign that is said holds where the row has what is surely there, and nothing that may not be
+kept_sign : (denial denials grant grants denied granted : Bool) (above below : Option Sign) (s : Sign)
+    → (denial ≡ true → denied ≡ true) → (denied ≡ true → denials ≡ true) → (grant ≡ true → granted ≡ true) → (granted ≡ true → grants ≡ true)
+    → (above ≡ Some s → below ≡ Some s) → sign_by (said denial denials grant grants) above ≡ Some s → sign_by (said denied denied granted granted) below ≡ Some s
+kept_sign true denials grant grants true granted above below s d1 d2 g1 g2 up is = is
+kept_sign true denials grant grants false granted above below s d1 d2 g1 g2 up is = absurd (true≢false (sym (d1 refl)))
+kept_sign false true grant grants denied granted above below s d1 d2 g1 g2 up is = absurd (none_is_not_some s is)
+kept_sign false false grant grants true granted above below s d1 d2 g1 g2 up is = absurd (true≢false (sym (d2 refl)))
+kept_sign false false true grants false true above below s d1 d2 g1 g2 up is = is
+kept_sign false false true grants false false above below s d1 d2 g1 g2 up is = absurd (true≢false (sym (g1 refl)))
+kept_sign false false false true false granted above below s d1 d2 g1 g2 up is = absurd (none_is_not_some s is)
+kept_sign false false false false false true above below s d1 d2 g1 g2 up is = absurd (true≢false (sym (g2 refl)))
+kept_sign false false false false false false above below s d1 d2 g1 g2 up is = up is
+
+-- A sign that is given holds whatever the levels come to.
+pub sign_holds : (grants denies : List ℕ) (levels : List Level) (rows : List (List ℕ)) (s : Sign) → AreOutcomes levels rows
+    → sign_of_levels grants denies levels ≡ Some s → sign_of_levels grants denies (map settled_level rows) ≡ Some s
+sign_holds grants denies [] [] s outcomes is = is
+sign_holds grants denies [] (row ∷ rows) s outcomes is = absurd outcomes
+sign_holds grants denies (level ∷ levels) [] s outcomes is = absurd outcomes
+sign_holds grants denies (level ∷ levels) (row ∷ rows) s outcomes is =
+    kept_sign (has_rule_of denies level.sure) (has_rule_of denies level.may) (has_rule_of grants level.sure) (has_rule_of grants level.may) (has_rule_of denies row) (has_rule_of grants row)
+    (sign_of_levels grants denies levels) (sign_of_levels grants denies (map settled_level rows)) s
+    (any_of_more (is_member denies) level.sure row outcomes.0.sure) (any_of_more (is_member denies) row level.may outcomes.0.may)
+    (any_of_more (is_member grants) level.sure row outcomes.0.sure) (any_of_more (is_member grants) row level.may outcomes.0.may)
+    (sign_holds grants denies levels rows s outcomes.1) is
+
+later : (level : Level) (levels : List Level) → Any IsUnsettled levels → Any IsUnsettled (level ∷ levels)
+later level levels a = (suc a.0, a.1, omega (arith, a.2), a.3, a.4)
+
+-- no sign is given by a level that is not settled, or by one around it
+why_none : (grants denies : List ℕ) (level : Level) (levels : List Level) (denial denials grant grant' : Bool) (above : Option Sign)
+    → has_rule_of denies level.sure ≡ denial → has_rule_of denies level.may ≡ denials → has_rule_of grants level.sure ≡ grant → has_rule_of grants level.may ≡ grant'
+    → (above ≡ None → Any IsUnsettled levels) → sign_by (said denial denials grant grant') above ≡ None → Any IsUnsettled (level ∷ levels)
+why_none grants denies level levels true denials grant grant' above d1 d2 g1 g2 up is = absurd (none_is_not_some Deny (sym is))
+why_none grants denies level levels false true grant grant' above d1 d2 g1 g2 up is = (0, level, omega arith, refl, one_between (is_member denies) level.may level.sure d2 d1)
+why_none grants denies level levels false false true grant' above d1 d2 g1 g2 up is = absurd (none_is_not_some Grant (sym is))
+why_none grants denies level levels false false false true above d1 d2 g1 g2 up is = (0, level, omega arith, refl, one_between (is_member grants) level.may level.sure g2 g1)
+why_none grants denies level levels false false false false above d1 d2 g1 g2 up is = later level levels (up is)
+
+pub none_is_unsettled : (grants denies : List ℕ) (levels : List Level) → sign_of_levels grants denies levels ≡ None → Any IsUnsettled levels
+none_is_unsettled grants denies [] is = absurd (none_is_not_some Deny (sym is))
+none_is_unsettled grants denies (level ∷ levels) is =
+    why_none grants denies level levels (has_rule_of denies level.sure) (has_rule_of denies level.may) (has_rule_of grants level.sure) (has_rule_of grants level.may) (sign_of_levels grants denies levels)
+    refl refl refl refl (none_is_unsettled grants denies levels) is
+
+-- ---- rules
+
+-- a rule is found where there is one
+found_is : (f : ℕ → Bool) (xs : List ℕ) → is_some (find f xs) ≡ list_any f xs
+found_is f [] = refl
+found_is f (x ∷ xs) = elim (f x) as (λ b. is_some (cond b (Some x) (find f xs)) ≡ (b || list_any f xs)) [ true ↦ refl | false ↦ found_is f xs ]
+
+-- behind what is found nothing counts
+farther_rule : (deny grant far near : Option ℕ) (denied granted : Bool) → is_some deny ≡ denied → is_some grant ≡ granted
+    → MatchBool (denied || granted) (Unit {0}) (far ≡ near) → option_or (option_or deny grant) far ≡ option_or (option_or deny grant) near
+farther_rule (Some n) grant far near denied granted d g same = refl
+farther_rule None (Some n) far near denied granted d g same = refl
+farther_rule None None far near true granted d g same = absurd (true≢false (sym d))
+farther_rule None None far near false true d g same = absurd (true≢false (sym g))
+farther_rule None None far near false false d g same = same
+
+within : (b : Bool) (P Q : Type 0) → (P → Q) → MatchBool b (Unit {0}) P → MatchBool b (Unit {0}) Q
+within true P Q f h = tt
+within false P Q f h = f h
+
+-- The rule is told by the levels up to the decider.
+pub rule_settled : (grants denies : List ℕ) (levels : List Level) (rows : List (List ℕ)) → AreSettledToDecider grants denies levels rows
+    → rule_of_levels grants denies levels ≡ rule_of_levels grants denies (map settled_level rows)
+rule_settled grants denies [] [] settled = refl
+rule_settled grants denies [] (row ∷ rows) settled = absurd settled
+rule_settled grants denies (level ∷ levels) [] settled = absurd settled
+rule_settled grants denies (level ∷ levels) (row ∷ rows) settled =
+    ap (λ sure. option_or (option_or (find (is_member denies) sure) (find (is_member grants) sure)) (rule_of_levels grants denies levels)) settled.0
+    ∙ farther_rule (find (is_member denies) row) (find (is_member grants) row) (rule_of_levels grants denies levels) (rule_of_levels grants denies (map settled_level rows))
+    (has_rule_of denies row) (has_rule_of grants row) (found_is (is_member denies) row) (found_is (is_member grants) row)
+    (within (has_rule_of denies row || has_rule_of grants row) (AreSettledToDecider grants denies levels rows) (rule_of_levels grants denies levels ≡ rule_of_levels grants denies (map settled_level rows)) (rule_settled grants denies levels rows) settled.2)

@@ -1,0 +1,65 @@
+-- The rows of a document and its rules, and what rows may come to be. This project's own.
+use Rattle.std.specs.Prelude.{◌≡◌, ℕ, Bool, true, false, ◌||◌, List, [], ◌∷◌, map}
+use Rattle.std.specs.Bool.{MatchBool}
+use Rattle.std.specs.List.{slice_get}
+use Rattle.std.specs.Option.{option_map_or}
+use Rattle.acl_bits.specs.Row.{row_of, is_member}
+use Rattle.acl_model.specs.Places.{prefixes}
+use Rattle.acl_model.specs.Select.{select}
+use Rattle.acl_model.specs.Explain.{is_same_sign}
+use Rattle.acl_model.specs.declared.document.Doc.{Doc}
+use Rattle.acl_model.specs.declared.rule.Rule.{Rule}
+use Rattle.acl_model.specs.declared.rule.Sign.{Sign}
+use Rattle.sign_stack.specs.declared.level.Level.{Level}
+use Rattle.sign_stack.specs.Levels.{has_rule_of}
+
+-- the numbers, from 0, of the rules that pass a test
+abbrev pub numbers_of : (Rule → Bool) → List Rule → List ℕ
+numbers_of test rules = row_of (λ n. option_map_or test (slice_get rules n) false)
+
+-- the numbers of the rules of a sign
+abbrev pub numbers_of_sign : Sign → List Rule → List ℕ
+numbers_of_sign sign rules = numbers_of (λ r. is_same_sign r.sign sign) rules
+
+-- the numbers of the rules that select a place
+abbrev pub selecting_row : Doc → List Rule → List ℕ → List ℕ
+selecting_row d rules place = numbers_of (λ r. select d r.path place) rules
+
+-- The rules of the row select, and no others may.
+abbrev pub settled_level : List ℕ → Level
+settled_level row = record { sure = row; may = row }
+
+-- the rows of the element at a place, those of its parent, and so on to the root's
+abbrev pub settled_levels : Doc → List Rule → List ℕ → List Level
+settled_levels d rules place =
+    map (λ prefix. settled_level (selecting_row d rules prefix)) (prefixes place)
+
+-- The row may be what a level settles to: it has each rule that surely selects, and none that may
+-- not.
+pub record IsOutcome (level : Level) (row : List ℕ) : Type 0 where
+  pub sure : (rule : ℕ) → is_member level.sure rule ≡ true → is_member row rule ≡ true
+  pub may : (rule : ℕ) → is_member row rule ≡ true → is_member level.may rule ≡ true
+
+-- Each row may be what its level settles to, and there is one for each level.
+abbrev pub AreOutcomes : List Level → List (List ℕ) → Type 0
+AreOutcomes [] [] = Unit {0}
+AreOutcomes [] (row ∷ rows) = ⊥
+AreOutcomes (level ∷ levels) [] = ⊥
+AreOutcomes (level ∷ levels) (row ∷ rows) = IsOutcome level row × AreOutcomes levels rows
+
+-- The level holds a rule that may select, and doesn't surely.
+abbrev pub IsUnsettled : Level → Type 0
+IsUnsettled level =
+    (rule : ℕ) × (is_member level.may rule ≡ true) × (is_member level.sure rule ≡ false)
+
+-- Each level has settled to its row, from the innermost one up to the first at which one of these
+-- rules selects.
+abbrev pub AreSettledToDecider : List ℕ → List ℕ → List Level → List (List ℕ) → Type 0
+AreSettledToDecider grants denies [] [] = Unit {0}
+AreSettledToDecider grants denies [] (row ∷ rows) = ⊥
+AreSettledToDecider grants denies (level ∷ levels) [] = ⊥
+AreSettledToDecider grants denies (level ∷ levels) (row ∷ rows) =
+    (level.sure ≡ row) × (level.may ≡ row)
+    × MatchBool (has_rule_of denies row || has_rule_of grants row)
+    (Unit {0})
+    (AreSettledToDecider grants denies levels rows)

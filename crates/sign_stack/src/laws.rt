@@ -1,0 +1,39 @@
+//! That rows give the signs of a document and the rules that they come from. These functions do
+//! nothing: their contracts are the laws.
+
+ghost use Rattle.std.specs.Prelude.{◌≡◌, ◌≤◌, ℕ, List, Some, None, Any, length, map};
+ghost use Rattle.acl_model.specs.Decide.{sign};
+ghost use Rattle.acl_model.specs.Explain.{explanation_of};
+ghost use Rattle.acl_model.specs.declared.document.Doc.{Doc};
+ghost use Rattle.acl_model.specs.declared.rule.Rule.{Rule};
+ghost use Rattle.acl_model.specs.declared.rule.Sign.{Sign};
+ghost use Rattle.acl_model.specs.declared.rule.Sign.TheVariants.{Grant, Deny};
+ghost use Rattle.sign_stack.specs.declared.level.Level.{Level};
+ghost use Rattle.sign_stack.specs.Levels.{sign_of_levels, rule_of_levels};
+ghost use Rattle.sign_stack.specs.Rules.{numbers_of_sign, settled_level, settled_levels, AreOutcomes, AreSettledToDecider, IsUnsettled};
+
+/// The rows of the rules that select an element and its ancestors give its sign, and the rule that
+/// an explanation tells.
+pub fn rows_give_signs()
+    ensures sign { (d : Doc) (rules : List Rule) (place : List ℕ) → length rules ≤ 256
+        → sign_of_levels (numbers_of_sign Grant rules) (numbers_of_sign Deny rules)
+        (settled_levels d rules place) ≡ Some (sign d rules place) }
+    ensures rule { (d : Doc) (rules : List Rule) (place : List ℕ) → length rules ≤ 256
+        → rule_of_levels (numbers_of_sign Grant rules) (numbers_of_sign Deny rules)
+        (settled_levels d rules place) ≡ (explanation_of d rules place).rule }
+{}
+
+/// A sign that is given before all rows are settled holds whatever they come to be. None is given
+/// only where a level holds a rule that may select and doesn't surely. The rule is right once the
+/// levels up to the decider are settled.
+pub fn unsettled_rows_are_told()
+    ensures sign { (grants denies : List ℕ) (levels : List Level) (rows : List (List ℕ)) (s : Sign)
+        → AreOutcomes levels rows → sign_of_levels grants denies levels ≡ Some s
+        → sign_of_levels grants denies (map settled_level rows) ≡ Some s }
+    ensures none { (grants denies : List ℕ) (levels : List Level)
+        → sign_of_levels grants denies levels ≡ None → Any IsUnsettled levels }
+    ensures rule { (grants denies : List ℕ) (levels : List Level) (rows : List (List ℕ))
+        → AreSettledToDecider grants denies levels rows
+        → rule_of_levels grants denies levels
+        ≡ rule_of_levels grants denies (map settled_level rows) }
+{}
