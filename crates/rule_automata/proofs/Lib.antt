@@ -1,0 +1,3 @@
+pub mod StateLists
+pub mod TagLaws
+pub mod RunLaws

@@ -1,0 +1,3 @@
+pub mod Compile
+pub mod Run
+pub mod Meaning

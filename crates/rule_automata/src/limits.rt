@@ -1,0 +1,59 @@
+//! Whether rules may be compiled: the test of what `compile` asks of its callers.
+
+ghost use Rattle.std.specs.Prelude.{◌≡◌, ◌↔◌, IsTrue, length, nat_le};
+ghost use Rattle.std.specs.List.{list_all};
+ghost use Rattle.rule_automata.specs.Compile.{AreWithinLimits, have_no_predicates, is_empty_of, steps_in};
+
+use acl_model::{Name, Rule};
+
+/// The most rules, steps of them all, and names.
+const MOST_RULES: usize = 64;
+
+const MOST_STEPS: usize = 256;
+
+const MOST_NAMES: usize = 256;
+
+/// Whether the rules are within the limits of a licence, have no predicate, and there are tags for
+/// the names.
+pub fn are_within_limits(rules: &[Rule], names: &[Name]) -> bool
+    ensures { IsTrue result ↔ AreWithinLimits names.now rules.now }
+{
+    if rules.len() > MOST_RULES || names.len() > MOST_NAMES {
+        return false;
+    }
+    if !have_few_steps(rules) {
+        return false;
+    }
+    have_no_predicates(rules)
+}
+
+/// Whether the rules have together no more steps than a row has numbers.
+#[tactic(auto, using(crate::proofs::StateLists::step_counts))]
+fn have_few_steps(rules: &[Rule]) -> bool
+    ensures { result ≡ nat_le (steps_in rules.now) 256 }
+{
+    let mut left = MOST_STEPS;
+    for rule in rules {
+        if rule.path.steps.len() > left {
+            return false;
+        }
+        left -= rule.path.steps.len();
+    }
+    true
+}
+
+fn have_no_predicates(rules: &[Rule]) -> bool
+    ensures { result ≡ have_no_predicates rules.now }
+{
+    rules.iter().all(|rule| has_no_predicate(rule))
+}
+
+fn has_no_predicate(rule: &Rule) -> bool
+    ensures { result ≡ list_all (λ s. is_empty_of s.preds) rule.now.path.steps }
+{
+    rule.path
+        .steps
+        .as_slice()
+        .iter()
+        .all(|step| step.preds.is_empty())
+}
