@@ -1,0 +1,11 @@
+//! A state of the tables at an open element.
+
+/// A state at an element: whether its step may be taken at a child, and the rule that selects the
+/// element by it.
+#[derive(Clone, Copy, Debug, PartialEq, Eq)]
+pub struct Entry {
+    /// The number of the state.
+    pub state: u16,
+    pub waits: bool,
+    pub selects: Option<u8>,
+}

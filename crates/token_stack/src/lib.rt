@@ -1,0 +1,18 @@
+//! Tokens: which states of the tables wait at each open element, and which rules select it.
+#![tactic(auto)]
+
+mod entry;
+mod laws;
+mod moves;
+mod rows;
+mod tokens;
+
+pub use entry::Entry;
+pub use laws::{
+    levels_follow_tags, open_elements_stand_in_the_document, rows_have_the_rules_that_select,
+    standing_tokens_have_the_rules_that_select, tokens_follow_events,
+};
+pub use tokens::Tokens;
+
+#[cfg(test)]
+mod tests;
