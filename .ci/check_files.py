@@ -112,13 +112,13 @@ def digest(*parts):
     return hashlib.sha256(b"".join(parts)).digest()
 
 
-def file_of(key, root):
-    """The file of a document, and its root."""
+def file_of(key, root, changed=bytes):
+    """The file of a document, and its root. The stream may be changed before it is enciphered."""
     names = list(dict.fromkeys(started(root)))
     dictionary = len(names).to_bytes(2, "big") + b"".join(bytes([len(name)]) + name for name in names)
     tree = joined(b"", range(len(names)), [branch(root, names)])
     plain = dictionary + tree
-    plain += bytes(-len(plain) % 256)
+    plain = changed(plain + bytes(-len(plain) % 256))
     masked = (int.from_bytes(plain[at:at + 16], "big") ^ at // 16 for at in range(0, len(plain), 16))
     cipher = enciphered(key, b"".join(block.to_bytes(16, "big") for block in masked))
     numbers = zip((len(tree), len(dictionary), len(names), depth(root)), (8, 4, 2, 2))
@@ -160,4 +160,5 @@ def main():
     return 1 if wrong or not vectors else 0
 
 
-sys.exit(main())
+if __name__ == "__main__":
+    sys.exit(main())

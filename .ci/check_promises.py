@@ -36,7 +36,8 @@ def calls(crate):
     found = []
     for file in sources(crate):
         owner = None
-        text = file.read_text()
+        # a record in a clause ends no head of a function
+        text = re.sub(r"^( +\w+ = .*);$|(\(record) \{$", r"\1\2", file.read_text(), flags=re.M)
         heads = list(re.finditer(r"^(?:pub )?(?:impl\b[^{]*|trait (\w+)[^{]*)\{|^\}", text, re.M))
         for fn in re.finditer(r"^( *)(?:pub(?:\([^)]*\))? )?fn (\w+)(.*?)(?:^\1\{|;$|\{$)", text, re.M | re.S):
             owner = None

@@ -18,7 +18,7 @@ try() {
     [ "$status" = 2 ] || { echo "acl, $what: status $status in place of 2"; wrong=1; }
     [ ! -s "$made/out" ] || { echo "acl, $what: something on standard output"; wrong=1; }
     [ "$(head -n 1 "$made/error")" = "acl: 2 Usage" ] || { echo "acl, $what: no line of the outcome"; wrong=1; }
-    for named in "Usage: acl preview [OPTIONS] <RULES>" "--query" "--explain" "Usage: acl encode <KEYS>" "Usage: acl seal <KEYS>" "Usage: acl sample <N>"; do
+    for named in "Usage: acl preview [OPTIONS] <RULES>" "--query" "--explain" "Usage: acl encode <KEYS>" "Usage: acl seal <KEYS>" "Usage: acl view [OPTIONS] <KEYS> <STORE>" "Usage: acl explain <KEYS> <STORE>" "Usage: acl sample <N>"; do
         tail -n +2 "$made/error" | grep -qF -- "$named" || { echo "acl, $what: the page lacks $named"; wrong=1; }
     done
 }

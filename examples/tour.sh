@@ -7,21 +7,31 @@ program=../crates/acl_cli/out/acl_cli
 made=$(mktemp -d) || exit 2
 trap 'rm -rf "$made"' EXIT
 
-# Calls $1 with each step: its name, the status that is wanted, the stored output (`out` for standard output, `error` for
-# the line on standard error), the input, what it shows, and the words.
+# Calls $1 with each step: its name, the status that is wanted, the stored output (a name that ends in `.error` is of the line
+# on standard error), the input, what it shows, and the words.
 each_step() {
-    "$1" admin 0 out hospital.esis "One rule grants the administrative part. What lies around it is kept as '-', without its texts." preview admin.rules
-    "$1" doctor 0 out hospital.esis "A denial inside a grant, and a nearer grant inside the denial: the nearest rule decides." preview doctor.rules
-    "$1" explain 0 out hospital.esis "The same rules explained: at each element that a rule selects, the rule that decides." preview doctor.rules --explain
-    "$1" physician 0 out hospital.esis "A rule for each physician's own patients. The physician's name stands behind what it decides on." preview physician.rules
-    "$1" acts 0 out hospital.esis "A query on what the reader sees." preview acts.rules --query '//Act[RPhys]'
-    "$1" nothing 0 out hospital.esis "Its predicates see nothing that the reader doesn't: the details are hidden." preview acts.rules --query '//Act[Details]'
-    "$1" lost 12 error cut.esis "A document that was cut off is refused at the line that is missing." preview admin.rules
-    "$1" misspelled 21 error hospital.esis "So is a rule, at the line and the place in its path." preview misspelled.rules
-    "$1" seal 0 out admin.rules "A body is sealed with the publisher's keys." seal keys
-    "$1" sample 0 out nothing.out "A document to try things on, as large as you like." sample 1
-    "$1" encode 0 error hospital.esis "A document is encrypted. The file goes to standard output, which isn't shown here, and its root is told." encode keys
+    "$1" encode 0 encode.error hospital.esis "A publisher encrypts a document. The file, as hospital.file, may lie on any store; its root is told." encode keys
+    "$1" seal 0 physician.licence physician.rules "The rules of a reader are sealed, with that root in them: a physician sees the administration of her own patients." seal keys
+    "$1" view 0 physician.out physician.licence "That reader's view of the file. What lies around it is kept as '-', without its texts." view keys hospital.file
+    "$1" doctor 0 doctor.out doctor.licence "Another reader's view of the same file: a denial inside a grant, and a nearer grant inside the denial." view keys hospital.file
+    "$1" explain 0 explain.out doctor.licence "Why: at each element that a rule selects, the rule that decides." explain keys hospital.file
+    "$1" answer 0 answer.out doctor.licence "A query on what the reader sees." view keys hospital.file --query '//Act[Details]'
+    "$1" hidden 0 nothing.out doctor.licence "Its predicates see nothing that the reader doesn't: the name of the patient is hidden." view keys hospital.file --query '//Folder[Admin/Fname]'
+    "$1" changed 35 changed.error physician.licence "One byte of the file was changed: it is refused, and nothing is written." view keys changed.file
+    "$1" forged 20 forged.error forged.licence "One rule of the licence was changed: so is it." view keys hospital.file
+    "$1" preview 0 physician.out hospital.esis "Before rules are sealed a publisher looks at what they show, without keys and file." preview physician.rules
+    "$1" lost 12 lost.error cut.esis "A document that was cut off is refused at the line that is missing." preview admin.rules
+    "$1" misspelled 21 misspelled.error hospital.esis "So is a rule, at the line and the place in its path." preview misspelled.rules
+    "$1" sample 0 sample.out nothing.out "A document to try things on, as large as you like." sample 1
 }
+
+# A file with one byte changed, and a licence with one rule changed.
+cp hospital.file "$made/changed.file"
+printf x | dd of="$made/changed.file" bs=1 seek=100 conv=notrunc status=none
+sed 's/Admin$/Act/' physician.licence >"$made/forged.licence"
+
+# where a file of a step lies: beside this script, or among those that were made
+place() { if [ -e "$1" ]; then echo "$1"; else echo "$made/$1"; fi; }
 
 # the proved program stands, and no source is newer
 stands() {
@@ -30,13 +40,17 @@ stands() {
 
 # Leaves of a step what it wrote, what it said on standard error, and its status.
 run_proved() {
-    "$program" "${@:6}" <"$4" >"$made/$1.out" 2>"$made/$1.error"
+    local words=()
+    for word in "${@:6}"; do
+        if [ -e "$made/$word" ]; then words+=("$made/$word"); else words+=("$word"); fi
+    done
+    "$program" "${words[@]}" <"$(place "$4")" >"$made/$1.out" 2>"$made/$1.error"
     echo "$?" >"$made/$1.status"
 }
 
 # Lays a step out for `rt try`, which finds the files of its words by their names.
 lay_out() {
-    cp "$4" "$made/cases/$1"
+    cp "$(place "$4")" "$made/cases/$1"
     printf '%s\n' "${@:6}" >"$made/cases/$1.args"
     : >"$made/$1.out"
     : >"$made/$1.error"
@@ -49,22 +63,24 @@ run_unproved() {
     mkdir "$made/cases"
     each_step lay_out
     local data=()
-    for file in *.rules keys; do data+=(--data "$file=../../examples/$file"); done
+    for file in *.rules keys hospital.file; do data+=(--data "$file=../../examples/$file"); done
+    data+=(--data "changed.file=$made/changed.file")
     (cd ../crates/acl_cli && rt try --cases "$made/cases" "${data[@]}") >"$made/all.out" 2>"$made/all.error"
     awk -v made="$made" '/^== / { file = made "/" $2 ".out"; next } file { print > file }' "$made/all.out"
     awk -v made="$made" '/^(acl: |root )/ { said = $0 } /^case=/ { name = substr($1, 6); sub(/.*status=/, ""); print $1 > (made "/" name ".status"); if (said != "") print said > (made "/" name ".error"); said = "" }' "$made/all.error"
 }
 
 show() {
-    local status words
+    local status words kind=out
     status=$(cat "$made/$1.status")
     words=$(printf " '%s'" "${@:6}" | sed "s/'\([A-Za-z0-9.-]*\)'/\1/g")
     printf '\n%s\n$ acl%s <%s\n' "$5" "$words" "$4"
-    cat "$made/$1.$3"
-    if [ "$status" = "$2" ] && cmp -s "$made/$1.$3" "$1.$3"; then
-        echo "As stored in examples/$1.$3, with status $2."
+    case $3 in *.error) kind=error ;; esac
+    cat "$made/$1.$kind"
+    if [ "$status" = "$2" ] && cmp -s "$made/$1.$kind" "$3"; then
+        echo "As stored in examples/$3, with status $2."
     else
-        echo "NOT as stored in examples/$1.$3, with status $2: this run ended with $status."
+        echo "NOT as stored in examples/$3, with status $2: this run ended with $status."
         wrong=1
     fi
 }
@@ -73,10 +89,10 @@ if stands; then
     echo "This is the proved program, crates/acl_cli/out/acl_cli."
     each_step run_proved
 elif command -v rt >/dev/null; then
-    echo "No proved program stands here yet: this shows an unproved build, which takes about half a minute to make."
+    echo "No proved program stands here that is as new as its sources: this shows an unproved build, which takes about half a minute to make."
     run_unproved
 else
-    echo "No proved program stands here yet, and rt is not on the path to make one: it comes with the Rattle kit."
+    echo "No proved program stands here that is as new as its sources, and rt is not on the path to make one: it comes with the Rattle kit."
     exit 2
 fi
 wrong=0

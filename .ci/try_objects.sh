@@ -1,0 +1,81 @@
+#!/usr/bin/env bash
+# Tries what the built program does with words, files and streams that are not as they should be: the number that it ends
+# with, its line on standard error, and what it wrote.
+set -u
+cd "$(dirname "$0")/../examples" || exit 2
+program=../crates/acl_cli/out/acl_cli
+[ -x "$program" ] || { echo "$program doesn't stand"; exit 2; }
+made=$(mktemp -d) || exit 2
+trap 'rm -rf "$made"' EXIT
+wrong=0
+
+# What is tried, the outcome that is wanted, and a command line in which `acl` is the program. Nothing may be written.
+try() {
+    acl() { "$program" "$@"; }
+    eval "$3" >"$made/out" 2>"$made/error"
+    local status=$?
+    [ "$status" = "${2%% *}" ] || { echo "acl, $1: status $status in place of $2"; wrong=1; }
+    [ "$(head -n 1 "$made/error" | tr -d '\0')" = "acl: $2" ] || { echo "acl, $1: not the line of $2"; wrong=1; }
+    [ ! -s "$made/out" ] || { echo "acl, $1: something on standard output"; wrong=1; }
+}
+
+# the same, of a run whose standard error can't be written: its number alone
+try_number() {
+    acl() { "$program" "$@"; }
+    eval "$3"
+    local status=$?
+    [ "$status" = "$2" ] || { echo "acl, $1: status $status in place of $2"; wrong=1; }
+}
+
+try "a word behind the last" "2 Usage" "acl preview doctor.rules more <hospital.esis"
+try "a word behind an option" "2 Usage" "acl view keys hospital.file --query /a more <doctor.licence"
+try "a word that is no text" "2 Usage" "acl preview $'doctor\\xff.rules' <hospital.esis"
+try "a command that is no text" "2 Usage" "acl $'\\xff' <hospital.esis"
+try "no rules" "3 KeysFault" "acl preview nowhere.rules <hospital.esis"
+try "a folder as rules" "3 KeysFault" "acl preview . <hospital.esis"
+try "no keys" "3 KeysFault" "acl view nowhere hospital.file <doctor.licence"
+try "no store" "34 StoreFault" "acl view keys nowhere.file <doctor.licence"
+try "a folder as a store" "34 StoreFault" "acl explain keys . <doctor.licence"
+try "an empty store" "33 StoreShort at=0" "acl view keys nothing.out <doctor.licence"
+try "an empty licence" "22 BadLicence line=1" "acl view keys hospital.file <nothing.out"
+try "a closed input" "18 SourceFault" "acl preview doctor.rules <&-"
+try "a closed input of a licence" "18 SourceFault" "acl view keys hospital.file <&-"
+try "a folder as input" "18 SourceFault" "acl preview doctor.rules <."
+
+# The mistakes that docs/FORMATS.md tells of, in documents and in bodies.
+lines() { printf '%b\n' "$@"; }
+root="root 192458bf220db5d92fd62d4af0d3cecb63490b62c211eba93d9f548995a1a1d0"
+try "XML" "10 BadLine line=1" "acl preview doctor.rules <ward.xml"
+try "a byte order mark" "10 BadLine line=1" "lines '\\xef\\xbb\\xbf(a' ')a' | acl preview doctor.rules"
+try "another name" "12 Unbalanced line=2" "lines '(a' ')b' | acl preview doctor.rules"
+try "no end" "12 Unbalanced line=3" "lines '(a' -hi | acl preview doctor.rules"
+try "an empty line" "10 BadLine line=3" "lines '(a' ')a' '' | acl preview doctor.rules"
+try "a carriage return" "10 BadLine line=2" "lines '(a' ')a\\r' | acl preview doctor.rules"
+try "a second root" "14 SecondRoot line=4" "lines 'Ax CDATA 1' '(a' ')a' '(b' | acl preview doctor.rules"
+try "no line" "13 NoRoot" "acl preview doctor.rules <nothing.out"
+try "a carriage return in a body" "22 BadLicence line=1" "lines 'licence 1\\r' '$root' 'user Ana' end | acl seal keys"
+try "an indented body" "22 BadLicence line=1" "lines '    licence 1' '$root' 'user Ana' end | acl seal keys"
+try "a short root" "22 BadLicence line=2" "lines 'licence 1' 'root 192458bf' 'user Ana' end | acl seal keys"
+try "a rule without an id" "22 BadLicence line=4" "lines 'licence 1' '$root' 'user Ana' '+ //Act' end | acl seal keys"
+try "a path without a slash" "21 BadRule line=4 at=0" "lines 'licence 1' '$root' 'user Ana' '+ acts Act' end | acl seal keys"
+try "no end of a body" "22 BadLicence line=5" "lines 'licence 1' '$root' 'user Ana' '+ acts //Act' | acl seal keys"
+
+try "a body that is not sealed" "22 BadLicence line=1" "acl view keys hospital.file <doctor.rules"
+try "a licence that is sealed already" "22 BadLicence line=1" "acl seal keys <doctor.licence"
+try "keys and store swapped" "25 BadKeys line=1" "acl view hospital.file keys <doctor.licence"
+try "keys with carriage returns" "25 BadKeys line=1" "sed 's/$/\\r/' keys >$made/returns; acl seal $made/returns <doctor.rules"
+try "a licence as a word" "2 Usage" "acl view keys hospital.file doctor.licence <nothing.out"
+try "a query without a slash" "26 BadQuery at=0" "acl view keys hospital.file --query Act <doctor.licence"
+
+try "a full output" "40 SinkFault" "acl preview doctor.rules <hospital.esis >/dev/full"
+try "a closed output" "40 SinkFault" "acl preview doctor.rules <hospital.esis >&-"
+try "a full output of a view" "40 SinkFault" "acl view keys hospital.file <doctor.licence >/dev/full"
+try "a closed output of a view" "40 SinkFault" "acl view keys hospital.file <doctor.licence >&-"
+try "a full output of a file, and no root" "40 SinkFault" "acl encode keys <hospital.esis >/dev/full"
+try_number "a full standard error behind a file" 4 "acl encode keys <hospital.esis 2>/dev/full >$made/file"
+cmp -s "$made/file" hospital.file || { echo "acl, a full standard error: not the whole file"; wrong=1; }
+try_number "a closed standard error behind a file" 4 "acl encode keys <hospital.esis 2>&- >$made/file"
+cmp -s "$made/file" hospital.file || { echo "acl, a closed standard error: not the whole file"; wrong=1; }
+try_number "a full standard error behind a refusal" 34 "acl view keys nowhere.file <doctor.licence 2>/dev/full"
+[ "$wrong" -eq 0 ] && echo "Words, files and streams that are not as they should be are each named."
+exit "$wrong"
