@@ -12,6 +12,7 @@ pub mod ValueEquations
 mod Examples
 pub mod ViewEquations
 pub mod GrantLaws
+pub mod NameForms
 pub mod ViewForms
 pub mod PlaceLaws
 pub mod Members

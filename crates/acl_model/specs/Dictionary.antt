@@ -47,7 +47,7 @@ abbrev pub with_names : List (List ℕ) → List (List ℕ) → List (List ℕ)
 with_names names [] = names
 with_names names (name ∷ more) = with_names (with_name names name) more
 
--- the dictionary of a document: each name once, in the order in which elements of that name first start
+-- the dictionary of a document: each name once, as starts meet it from the front
 abbrev pub dictionary : Doc → List (List ℕ)
 dictionary d = with_names [] (start_names d.root)
 

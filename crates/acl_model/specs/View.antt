@@ -65,8 +65,8 @@ views own [] signs k = []
 views own (words bytes ∷ items) signs k = with_text own bytes (views own items signs k)
 views own (inner has_grant view ∷ items) signs k = with_child (view (in_child signs k)) (views own items signs (k + 1))
 
--- A granted element keeps its name, attributes and texts. A denied one with a granted descendant is a dummy, which has
--- the name '-' and neither attributes nor texts. Every other element is absent.
+-- Where the sign is a grant, the element stands with name, attributes and texts. Where it is a denial with a grant inside,
+-- a dummy stands there, by the name '-', without attributes and texts. Else nothing stands there.
 abbrev pub view_by_sign : Sign → Bool → List ℕ → List (List ℕ) → List Item → Option Element
 view_by_sign Grant granted_inside name attributes items = Some (record { name = name; attributes = attributes; items = items })
 view_by_sign Deny true name attributes items = Some (record { name = hyphen ∷ []; attributes = []; items = items })
@@ -100,7 +100,7 @@ view d rules = doc_of ((filter_of d.root).view (sign d rules))
 abbrev pub grant_rule : Path → Rule
 grant_rule path = record { id = []; sign = Grant; path = path }
 
--- A query is a second closed policy, on the view: its one rule grants what the query selects there.
+-- The answer of a query: the view of the view, under the one rule that grants what the query selects.
 abbrev pub answer : Doc → List Rule → Option Path → Option Doc
 answer d rules None = view d rules
 answer d rules (Some query) = option_and_then (λ v. view v (grant_rule query ∷ [])) (view d rules)

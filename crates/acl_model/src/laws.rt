@@ -75,10 +75,16 @@ pub fn places_are_of_elements()
         → times place (places d) ≡ (if is_some (at d place) then 1 else 0) }
 {}
 
-/// The view of a document is a view document: dummies apart its names are names, and it is no deeper.
+/// A document is a view document, in which no dummy stands.
+pub fn documents_are_view_documents()
+    ensures { (d : Doc) → is_document d ≡ true → is_view_document d ≡ true }
+{}
+
+/// The view of a view document is a view document: dummies apart its names are names, and it is not too deep. So is the
+/// view of a document, and that of a view, as a query gives it.
 pub fn views_are_view_documents()
     ensures { (d v : Doc) (rules : List Rule)
-        → is_document d ≡ true → view d rules ≡ Some v → is_view_document v ≡ true }
+        → is_view_document d ≡ true → view d rules ≡ Some v → is_view_document v ≡ true }
 {}
 
 /// Where a width up to 32 fits, the least one is found, and it is the only one. Where the size doesn't fall as the width

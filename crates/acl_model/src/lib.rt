@@ -11,10 +11,10 @@ mod sequence;
 
 pub use document::{Doc, Element, Item};
 pub use laws::{
-    elements_show_where_granted, grants_are_of_places, least_widths_are_found,
-    paths_select_by_ancestors, places_are_of_elements, signs_follow_ancestors,
-    streams_of_small_documents, targets_stand_where_ways_lead, texts_are_bytes,
-    views_are_view_documents,
+    documents_are_view_documents, elements_show_where_granted, grants_are_of_places,
+    least_widths_are_found, paths_select_by_ancestors, places_are_of_elements,
+    signs_follow_ancestors, streams_of_small_documents, targets_stand_where_ways_lead,
+    texts_are_bytes, views_are_view_documents,
 };
 pub use lines::{cut, next_line};
 pub use names::{is_a_name, may_begin_name, may_continue_name};

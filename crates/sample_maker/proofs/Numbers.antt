@@ -4,6 +4,7 @@ use Rattle.acl_model.specs.Document.{is_document}
 use Rattle.acl_model.specs.Lines.{lines}
 use Rattle.acl_model.specs.Text.{text_of_view}
 use Rattle.acl_model.specs.View.{view}
+use Rattle.acl_model.proofs.NameForms.{document_form}
 use Rattle.acl_model.proofs.ViewForms.{view_form}
 use Rattle.acl_model.specs.declared.document.Doc.{Doc}
 use Rattle.sample_maker.specs.Sample.{sample_rule, element_number, line_number, view_line_number, line_of_numbers, sample_line}
@@ -26,7 +27,7 @@ line_number_is d good = lines_of_document d good
 -- the lines of a view
 pub view_line_number-Some : (d v : Doc) → is_document d ≡ true → view d (sample_rule ∷ []) ≡ Some v → view_line_number d ≡ line_count v.root
 unfolding view_line_number
-view_line_number-Some d v good shown = ap (λ o. length (lines (text_of_view o))) shown ∙ lines_of_view_document v (view_form d (sample_rule ∷ []) v good shown)
+view_line_number-Some d v good shown = ap (λ o. length (lines (text_of_view o))) shown ∙ lines_of_view_document v (view_form d (sample_rule ∷ []) v (document_form d good) shown)
 
 -- Nothing has no lines.
 pub view_line_number-None : (d : Doc) → view d (sample_rule ∷ []) ≡ None → view_line_number d ≡ 0
