@@ -1,5 +1,5 @@
 -- A row: a set of numbers from 0 to 255, as the list of its members in order. This project's own.
-use Rattle.std.specs.Prelude.{◌≡◌, ℕ, zero, suc, ◌+◌, ◌*◌, ◌/◌, ◌%◌, ◌^◌, ◌<◌, Bool, ◌==◌, if◌then◌else◌, List, [], ◌∷◌, length, filter, All, slice_index}
+use Rattle.std.specs.Prelude.{◌≡◌, ℕ, zero, suc, ◌+◌, ◌*◌, ◌/◌, ◌%◌, ◌^◌, ◌<◌, Bool, true, false, ◌==◌, if◌then◌else◌, List, [], ◌∷◌, length, filter, All, slice_index}
 use Rattle.std.specs.List.{range_with_len, list_any}
 use Rattle.std.specs.List.Sorted.{IsStrictlyIncreasing}
 use Rattle.std.specs.Int.{bit_at}
@@ -22,6 +22,12 @@ pub record IsRow (members : List ℕ) : Type 0 where
 -- whether the words have the number: bit n % 64 of word n / 64 is 1
 unfoldable pub is_set : List ℕ → ℕ → Bool
 is_set words n = bit_at (slice_index words (n / 64)) (n % 64) == 1
+
+-- the least number that the words have
+pub record IsFirst (words : List ℕ) (n : ℕ) : Type 0 where
+  pub within : n < 256
+  pub has : is_set words n ≡ true
+  pub none : (k : ℕ) → k < n → is_set words k ≡ false
 
 -- the members that the words have
 abbrev pub members_of : List ℕ → List ℕ

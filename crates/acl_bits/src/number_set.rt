@@ -1,9 +1,9 @@
 //! A set of numbers from 0 to 255 in four words: number `n` is a member exactly where bit `n % 64`
 //! of word `n / 64` is 1.
 
-ghost use Rattle.std.specs.Prelude.{◌≡◌, ◌↔◌, ◌<◌, ◌≤◌, ◌==◌, ◌||◌, ◌-◌, ◌^◌, nat_lt, min, [], length, count_by, slice_get, IsNone, ℕ, Bool, false};
+ghost use Rattle.std.specs.Prelude.{◌≡◌, ◌↔◌, ◌<◌, ◌≤◌, ◌==◌, ◌||◌, ◌-◌, ◌^◌, nat_lt, min, [], length, count_by, slice_get, IsNone, IfSome, MatchOption, ◌∷◌, ℕ, Bool, false};
 ghost use Rattle.std.specs.List.{range_with_len, list_any};
-ghost use Rattle.acl_bits.specs.Row.{row_of, is_member, is_set, IsRow};
+ghost use Rattle.acl_bits.specs.Row.{row_of, is_member, is_set, IsRow, IsFirst};
 ghost use Rattle.acl_bits.specs.RowLaws.{numbers_below};
 
 use std::marker::Model;
@@ -156,6 +156,17 @@ impl Row {
         }
         Some(low)
     }
+
+    /// Takes out the least member, if there is one. So a loop goes over all members, in rising order, in as many steps.
+    pub fn take_first(&mut self) -> Option<u16>
+        ensures first { MatchOption result (self.old ≡ []) (λ n. self.old ≡ n ∷ self.new) }
+        ensures small { IfSome result (λ n. n < 256) }
+        ensures kept { IsNone result → self.new ≡ self.old }
+    {
+        let first = first_of(&self.words)?;
+        self.words[(first / 64) as usize] &= !(1 << (first % 64));
+        Some(first)
+    }
 }
 
 /// A law: of the numbers below 256, a set that a test makes has those that pass, in rising order.
@@ -174,6 +185,20 @@ fn low_ones(count: u16) -> u64
     } else {
         u64::MAX
     }
+}
+
+/// The least number that the words have.
+fn first_of(words: &[u64; 4]) -> Option<u16>
+    ensures { MatchOption result
+        ((n : ℕ) → n < 256 → is_set words.now n ≡ false)
+        (IsFirst words.now) }
+{
+    for i in 0..4 {
+        if words[i] != 0 {
+            return Some(64 * i as u16 + words[i].trailing_zeros() as u16);
+        }
+    }
+    None
 }
 
 /// How many of the first `n` bits of the words are 1.

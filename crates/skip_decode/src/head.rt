@@ -97,9 +97,9 @@ fn take_members(bits: &mut BitIn<'_>, members: &Row) -> Option<Row>
         (take_members members.now [] bits.old ≡ None)
         (λ below. take_members members.now [] bits.old ≡ Some (below, bits.new)) }
 {
+    let mut left = *members;
     let mut below = Row::none();
-    for k in 0..members.count() {
-        let number = members.nth(k).unwrap();
+    while let Some(number) = left.take_first() {
         if take_bits(bits, 1)? == 1 {
             below.put(number);
         }

@@ -1,6 +1,5 @@
 -- The words on bits of `acl_model` and of `acl_bits` are the same, and so are those on sets.
 use mir.Val.{bool_byte}
-use Rattle.acl_bits.specs.RowLaws.{numbers_below}
 use Rattle.std.proofs.Common.{◌≡◌, ℕ, zero, suc, ◌+◌, ◌*◌, ◌/◌, ◌==◌, Bool, true, false, List, [], ◌∷◌, length, take, drop, refl, ap, ◌∙◌}
 use Rattle.std.specs.Int.{bit_at}
 use Rattle.acl_model.specs.Bits.{bits_of, digit, number_after, filled_bits, first_bytes, bytes_of}
@@ -36,8 +35,3 @@ pub one_bit : (bit : Bool) → string_of 1 (bool_byte bit) ≡ bit ∷ []
 unfolding string_of
 one_bit false = refl
 one_bit true = refl
-
--- no number is below 0
-pub no_numbers : (test : ℕ → Bool) → numbers_below test 0 ≡ []
-unfolding numbers_below
-no_numbers test = refl

@@ -1,6 +1,6 @@
 -- Sets of numbers: that the two crates' words on them are the same, and what the code puts into them.
-use Rattle.std.proofs.Common.{◌≡◌, ℕ, zero, suc, ◌+◌, ◌<◌, ◌≤◌, ◌==◌, nat_eq, eqb, ◌||◌, Bool, true, false, cond, List, [], ◌∷◌, ◌++◌, length, length-append, map, refl, ap, sym, ◌∙◌, arith}
-use Rattle.std.proofs.lemmas.List.{map-append, append-nil, append_assoc}
+use Rattle.std.proofs.Common.{◌≡◌, ℕ, zero, suc, ◌<◌, ◌≤◌, ◌==◌, nat_eq, eqb, ◌||◌, Bool, true, false, cond, List, [], ◌∷◌, ◌++◌, length, length-append, map, refl, ap, sym, ◌∙◌, arith}
+use Rattle.std.proofs.lemmas.List.{append_assoc}
 use Rattle.std.proofs.lemmas.Bool.Decides.{nat_tests}
 use Rattle.acl_model.specs.Stream.{has_member, numbers_with, set_bits}
 use mir.Val.{bool_byte}
@@ -68,27 +68,6 @@ members-element tag below old =
 
 -- ---- the bits of a set
 
--- a bit for each member below n + 1: one more where n is a member
-pub set_bits-member : (members below : List ℕ) (n : ℕ) → is_member members n ≡ true
-    → map (has_member below) (numbers_below (is_member members) (n + 1)) ≡ map (has_member below) (numbers_below (is_member members) n) ++ (is_member below n ∷ [])
-unfolding numbers_below
-set_bits-member members below n there =
-    let more : n + 1 ≡ suc n = omega arith in
-    ap (λ k. map (has_member below) (numbers_below (is_member members) k)) more
-    ∙ ap (λ b. map (has_member below) (numbers_below (is_member members) n ++ cond b (n ∷ []) [])) there
-    ∙ map-append (has_member below) (numbers_below (is_member members) n) (n ∷ [])
-    ∙ ap (λ b. map (has_member below) (numbers_below (is_member members) n) ++ (b ∷ [])) (has_member-is_member below n)
-
--- and none where it isn't
-pub set_bits-other : (members below : List ℕ) (n : ℕ) → is_member members n ≡ false
-    → map (has_member below) (numbers_below (is_member members) (n + 1)) ≡ map (has_member below) (numbers_below (is_member members) n)
-unfolding numbers_below
-set_bits-other members below n out =
-    let more : n + 1 ≡ suc n = omega arith in
-    ap (λ k. map (has_member below) (numbers_below (is_member members) k)) more
-    ∙ ap (λ b. map (has_member below) (numbers_below (is_member members) n ++ cond b (n ∷ []) [])) out
-    ∙ ap (map (has_member below)) (append-nil (numbers_below (is_member members) n))
-
 -- the bits of a set that isn't empty
 pub set_bits-some : (members below : List ℕ) → 1 ≤ length below → set_bits members below ≡ true ∷ map (has_member below) members
 set_bits-some members [] some = absurd (omega arith)
@@ -99,13 +78,13 @@ pub set_bits-none : (members below : List ℕ) → length below ≡ 0 → set_bi
 set_bits-none members [] none = refl
 set_bits-none members (n ∷ below) none = absurd (omega arith)
 
--- the bit of a member is put behind those of the members before it
-pub set_bits-put : (start bits new : List Bool) (members below : List ℕ) (n value : ℕ) (bit : Bool)
-    → new ≡ bits ++ string_of 1 value → value ≡ bool_byte bit → bit ≡ is_member below n → is_member members n ≡ true
-    → bits ≡ start ++ map (has_member below) (numbers_below (is_member members) n)
-    → new ≡ start ++ map (has_member below) (numbers_below (is_member members) (n + 1))
-set_bits-put start bits new members below n value bit grown byte is there before =
-    grown ∙ ap (λ v. bits ++ string_of 1 v) byte ∙ ap (λ l. bits ++ l) (one_bit bit) ∙ ap (λ b. bits ++ (b ∷ [])) is
-    ∙ ap (λ l. l ++ (is_member below n ∷ [])) before
-    ∙ append_assoc start (map (has_member below) (numbers_below (is_member members) n)) (is_member below n ∷ [])
-    ∙ ap (λ l. start ++ l) (sym (set_bits-member members below n there))
+-- with the bit of the next member, the bits of those behind it are left
+pub set_bits-put : (bits new all : List Bool) (left rest below : List ℕ) (n value : ℕ) (bit : Bool)
+    → new ≡ bits ++ string_of 1 value → value ≡ bool_byte bit → bit ≡ is_member below n → left ≡ n ∷ rest
+    → bits ++ map (has_member below) left ≡ all → new ++ map (has_member below) rest ≡ all
+set_bits-put bits new all left rest below n value bit grown byte is next before =
+    ap (λ l. l ++ map (has_member below) rest)
+    (grown ∙ ap (λ v. bits ++ string_of 1 v) byte ∙ ap (λ l. bits ++ l) (one_bit bit) ∙ ap (λ b. bits ++ (b ∷ [])) (is ∙ sym (has_member-is_member below n)))
+    ∙ append_assoc bits (has_member below n ∷ []) (map (has_member below) rest)
+    ∙ ap (λ l. bits ++ map (has_member below) l) (sym next)
+    ∙ before

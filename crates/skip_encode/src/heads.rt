@@ -34,10 +34,12 @@ pub(crate) fn write_head(
     parent: &Parent,
     element: &Measure,
 ) -> Result<(), AllocError>
-    requires number { rank parent.now.members element.now.tag < 2 ^ binary_length (length parent.now.members - 1) }
+    requires number { rank parent.now.members element.now.tag < 2 ^ binary_length
+        (length parent.now.members - 1) }
     requires long { element.now.long < 2 ^ parent.now.width }
     requires width { parent.now.width ≤ 32 }
-    ensures { OnOk result (bytes.new.items ≡ bytes.old.items ++ bytes_of (head_bits parent.now.members parent.now.width
+    ensures { OnOk result (bytes.new.items
+        ≡ bytes.old.items ++ bytes_of (head_bits parent.now.members parent.now.width
         element.now.tag element.now.below element.now.long)) }
 {
     let members = u32::from(parent.members.count());
@@ -63,9 +65,8 @@ fn put_set(bits: &mut BitOut, members: &Row, below: &Row)
         return;
     }
     bits.put(1, 1);
-    for n in 0..256 {
-        if members.has(n) {
-            bits.put(u32::from(below.has(n)), 1);
-        }
+    let mut left = *members;
+    while let Some(n) = left.take_first() {
+        bits.put(u32::from(below.has(n)), 1);
     }
 }

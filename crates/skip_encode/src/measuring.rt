@@ -50,7 +50,8 @@ pub(crate) fn measure_element(
     ensures measured { OnOk result (measures.new
         ≡ part_measures (element_part (branch_of names.now element.now)) ++ measures.old) }
     ensures small { OnOk result (size (branch_of names.now element.now).content ≤ 33554432) }
-    ensures large { result ≡ Err fault.TooLarge → 33554432 < size (branch_of names.now element.now).content }
+    ensures large { result ≡ Err fault.TooLarge
+        → 33554432 < size (branch_of names.now element.now).content }
 {
     let mut tally = Tally::new(front_size(element.attributes.as_slice())?);
     let mut items = element.items.as_slice();
@@ -77,7 +78,8 @@ fn measure_item(
 ) -> Result<(), MeasureFault>
     requires few { length names.now ≤ 256 }
     requires small { IsSmall tally.old }
-    ensures measured { OnOk result (measures.new ≡ part_measures (part_of names.now item.now) ++ measures.old) }
+    ensures measured { OnOk result (measures.new
+        ≡ part_measures (part_of names.now item.now) ++ measures.old) }
     ensures counted { OnOk result (tally.new ≡ with_part (part_of names.now item.now) tally.old) }
     ensures small { OnOk result (IsSmall tally.new) }
     ensures large { result ≡ Err fault.TooLarge

@@ -44,7 +44,8 @@ impl Tally {
         requires { IsSmall self.old }
         ensures added { OnOk result (self.new ≡ with_text (length text.now) self.old) }
         ensures small { OnOk result (IsSmall self.new) }
-        ensures large { result ≡ Err fault.TooLarge → 33554432 < (with_text (length text.now) self.old).plain }
+        ensures large { result ≡ Err fault.TooLarge
+            → 33554432 < (with_text (length text.now) self.old).plain }
     {
         self.plain = within_limit(self.plain, text.len() as u64 + 4)?;
         Ok(())
@@ -57,7 +58,8 @@ impl Tally {
         requires tag { element.now.tag < 256 }
         ensures added { OnOk result (self.new ≡ with_element element.now self.old) }
         ensures small { OnOk result (IsSmall self.new) }
-        ensures large { result ≡ Err fault.TooLarge → 33554432 < (with_element element.now self.old).plain }
+        ensures large { result ≡ Err fault.TooLarge
+            → 33554432 < (with_element element.now self.old).plain }
     {
         self.plain = within_limit(self.plain, u64::from(element.long))?;
         if element.below.count() == 0 {
@@ -73,9 +75,11 @@ impl Tally {
     /// How many bytes the content has that was counted.
     pub(crate) fn length(&self) -> Result<u32, MeasureFault>
         requires { IsSmall self.now }
-        ensures length { IfOk result (λ long. long ≡ laid_length (length self.now.members) self.now) }
+        ensures length { IfOk result (λ long.
+            long ≡ laid_length (length self.now.members) self.now) }
         ensures small { IfOk result (λ long. long ≤ 33554432) }
-        ensures large { result ≡ Err fault.TooLarge → 33554432 < laid_length (length self.now.members) self.now }
+        ensures large { result ≡ Err fault.TooLarge
+            → 33554432 < laid_length (length self.now.members) self.now }
     {
         let long = self.length_within(self.members.count());
         if long > LIMIT {
@@ -102,13 +106,11 @@ impl Tally {
         ensures width { result ≡ least_width (laid_size members self.now) }
         ensures few { result ≤ 32 }
     {
-        let start = binary_length(self.plain as u32);
-        for w in start..32 {
-            if self.bytes(members, digits, w) < 1 << w {
-                return w;
-            }
+        let mut w = binary_length(self.plain as u32);
+        while self.bytes(members, digits, w) >= 1 << w {
+            w += 1;
         }
-        32
+        w
     }
 
     /// The bytes of what was counted, with heads of this width.

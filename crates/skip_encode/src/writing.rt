@@ -26,7 +26,8 @@ pub(crate) fn write_element(
 ) -> Result<(), AllocError>
     requires few { length names.now ≤ 256 }
     requires formed { is_well_formed is_name element.now ≡ true }
-    requires measured { BeginsWith measures.old (part_measures (element_part (branch_of names.now element.now))) }
+    requires measured { BeginsWith measures.old (part_measures (element_part
+        (branch_of names.now element.now))) }
     requires fits { Fits parent.now.members parent.now.width (branch_of names.now element.now) }
     requires width { parent.now.width ≤ 32 }
     ensures written { OnOk result (bytes.new.items ≡ bytes.old.items ++ bytes_of_segments

@@ -11,15 +11,19 @@ fn next(state: u64) -> u64 {
 /// Each answer of the set is that of the table.
 fn expect_same(rt: &impl Abort, row: &Row, plain: &[bool; 256]) {
     let mut below = 0u16;
+    let mut left = *row;
     for n in 0..256u16 {
         let member = plain[n as usize];
         assert_eq!(rt; row.has(n), member, "has {n}");
         assert_eq!(rt; row.rank(n), below, "rank {n}");
         if member {
             assert_eq!(rt; row.nth(below), Some(n), "nth {below}");
+            assert_eq!(rt; left.take_first(), Some(n), "take_first {below}");
             below = below.saturating_add(1);
         }
     }
+    assert_eq!(rt; left.take_first(), None);
+    assert_eq!(rt; left.count(), 0);
     assert_eq!(rt; row.count(), below);
     assert_eq!(rt; row.rank(256), below);
     assert_eq!(rt; row.rank(u16::MAX), below);

@@ -1,28 +1,21 @@
 -- Each member has its bit.
-use Rattle.std.proofs.Common.{sym, ◌∙◌, arith}
-use Rattle.skip_decode.proofs.Searches.{members-short, members-one, members-other, members-end, member-small, with_number-is}
+use Rattle.std.proofs.Common.{refl, sym, ◌∙◌}
+use Rattle.skip_decode.proofs.Searches.{members-short, members-one, members-other, members-end, with_number-is}
 use Rattle.skip_decode.proofs.head.take_members.Goals as goal
-use Rattle.skip_decode.proofs.head.take_members.Goals.{then-branch-eq1, else-branch-eq1}
 
 pub returns-in_err-take_bits : goal.returns-in_err-take_bits
 returns-in_err-take_bits c =
-    let at = sym c.nth.ensures.value ∙ c.unwrap-number.ensures in
-    rw c.from_residual.ensures (sym c.loop-k.invariant ∙ members-short c.args.members.now c.loop-k.below c.loop-k.bits c.loop-k.k c.unwrap-number.result at c.in_err-take_bits.ensures)
+    rw c.from_residual.ensures (sym c.loop-number.invariant ∙ members-short c.loop-number.left c.take_first.new.self c.loop-number.below c.loop-number.bits c.in-Some.number c.in-Some.ensures.first c.in_err-take_bits.ensures)
 
-pub put-requires : goal.put-requires
-put-requires c = member-small c.args.members.now c.loop-k.k c.unwrap-number.result c.count-k-end.ensures.row (sym c.nth.ensures.value ∙ c.unwrap-number.ensures)
+pub loop-number-preserved-then-branch-eq1 : goal.loop-number-preserved-then-branch-eq1
+loop-number-preserved-then-branch-eq1 c =
+    members-one c.loop-number.left c.take_first.new.self c.loop-number.below c.put.new.self c.loop-number.bits c.take_bits.new.bits c.in-Some.number c.in_ok-take_bits.field-0 c.in-Some.ensures.first c.in_ok-take_bits.ensures
+    c.if-branch-eq1.true (c.put.ensures ∙ sym (with_number-is c.loop-number.below c.in-Some.number)) ∙ c.loop-number.invariant
 
-pub loop-k-preserved : goal.loop-k-preserved
-loop-k-preserved c =
-    let at = sym c.nth.ensures.value ∙ c.unwrap-number.ensures in
-    elim c.if-branch-eq1.branch [
-      | then-branch-eq1 w ↦
-          members-one c.args.members.now c.loop-k.below c.if-branch-eq1.below c.loop-k.bits c.take_bits.new.bits c.loop-k.k c.unwrap-number.result c.in_ok-take_bits.field-0 at c.in_ok-take_bits.ensures
-          w.if-branch-eq1.true (w.below-is ∙ w.put.ensures ∙ sym (with_number-is c.loop-k.below c.unwrap-number.result)) ∙ c.loop-k.invariant
-      | else-branch-eq1 w ↦
-          members-other c.args.members.now c.loop-k.below c.if-branch-eq1.below c.loop-k.bits c.take_bits.new.bits c.loop-k.k c.unwrap-number.result c.in_ok-take_bits.field-0 at c.in_ok-take_bits.ensures
-          w.if-branch-eq1.false w.below-is ∙ c.loop-k.invariant
-    ]
+pub loop-number-preserved : goal.loop-number-preserved
+loop-number-preserved c =
+    members-other c.loop-number.left c.take_first.new.self c.loop-number.below c.loop-number.below c.loop-number.bits c.take_bits.new.bits c.in-Some.number c.in_ok-take_bits.field-0 c.in-Some.ensures.first c.in_ok-take_bits.ensures
+    c.if-branch-eq1.false refl ∙ c.loop-number.invariant
 
 pub returns : goal.returns
-returns c = sym c.loop-k.invariant ∙ members-end c.args.members.now c.loop-k.below c.loop-k.bits c.loop-k.k (omega (arith, c.count-k-end.ensures.number, c.loop-k-test.false))
+returns c = sym c.loop-number.invariant ∙ members-end c.loop-number.left c.loop-number.below c.loop-number.bits c.in_default.ensures.first
