@@ -1,7 +1,8 @@
 //! A whole file: the header and the top digest are checked against the root and the key, then each
 //! fragment is opened in order, and the stream is taken apart.
 
-ghost use Rattle.std.specs.Prelude.{◌≡◌, OnOk, IfErr, MatchResult};
+ghost use Rattle.std.specs.Prelude.{◌≡◌, true, IfOk, OnOk, IfErr, MatchResult};
+ghost use Rattle.acl_model.specs.Document.{is_document};
 ghost use Rattle.acl_outside.specs.Outside.{NotFallen, Rose};
 ghost use Rattle.fragment_open.specs.Told.{Told};
 ghost use Rattle.file_reading.specs.FileEnds.{FileEnds, IsHonestFault, IsQuietFault, IsRefusedWhereShown, IsStoreFailure, OfHeldDocument, OpensInOrder};
@@ -15,10 +16,10 @@ use skip_decode::decode_all;
 use std::alloc::Global;
 
 /// Reads the document of a file under a root and a key. A store that holds it gives it. Another
-/// store gives it or is refused, unless two different strings of one digest are met; of a document
-/// that is given under a root which no encoding has, nothing is said. It is refused as [`begin`]
-/// refuses it, then by its fragments, from 0 on, and last by `BadIndex`. The file's stream is read
-/// into one allocation.
+/// store gives it or is refused, unless two different strings of one digest are met; of what is
+/// given under a root which no encoding has, nothing is said but that it is a document. It is
+/// refused as [`begin`] refuses it, then by its fragments, from 0 on, and last by `BadIndex`. The
+/// file's stream is read into one allocation.
 pub fn read_file<S: Store>(
     alloc: Global,
     store: &mut S,
@@ -26,6 +27,7 @@ pub fn read_file<S: Store>(
     key: [u8; 16],
 ) -> Result<Doc, FileFault>
     ensures told { Told (S.served store.old) (S.served store.new) (FileEnds result root key) }
+    ensures document { IfOk result (λ doc. is_document doc ≡ true) }
     ensures exact { Told (S.served store.old) (S.served store.new)
         (λ reads. IsRefusedWhereShown result root key reads) }
     ensures in_order { Told (S.served store.old) (S.served store.new) (OpensInOrder result) }
