@@ -1,5 +1,5 @@
 -- What is said before all rows are settled holds whatever they come to be.
-use Rattle.std.proofs.Common.{◌≡◌, ℕ, zero, suc, ◌+◌, ◌<◌, ◌≤◌, Bool, true, false, cond, eqb, ◌&&◌, ◌||◌, Option, Some, None, List, [], ◌∷◌, length, get_or, refl, ap, sym, subst, ◌∙◌, arith, map, Any, eq-eqb}
+use Rattle.std.proofs.Common.{◌≡◌, ◌⊎◌, inl, inr, ℕ, zero, suc, ◌+◌, ◌<◌, ◌≤◌, Bool, true, false, cond, eqb, ◌&&◌, ◌||◌, Option, Some, None, List, [], ◌∷◌, length, get_or, refl, ap, sym, subst, ◌∙◌, arith, map, Any, eq-eqb}
 use Rattle.std.specs.Bool.{MatchBool}
 use Rattle.std.specs.List.{list_any, find}
 use Rattle.std.specs.Option.{option_or, is_some, MatchOption}
@@ -12,7 +12,7 @@ use Rattle.sign_stack.specs.declared.level.Level.{Level}
 use Rattle.sign_stack.specs.declared.level.Verdict.{Verdict}
 use Rattle.sign_stack.specs.declared.level.Verdict.TheVariants.{Decided, Unsettled, Inherited}
 use Rattle.sign_stack.specs.Levels.{has_rule_of, verdict_at, sign_by, sign_of_levels, rule_at, rule_of_levels}
-use Rattle.sign_stack.specs.Rules.{settled_level, IsOutcome, AreOutcomes, IsUnsettled, AreSettledToDecider}
+use Rattle.sign_stack.specs.Rules.{settled_level, IsOutcome, AreOutcomes, IsUnsettled, IsUnsettledBy, IsHeldUp, AreSettledToDecider}
 
 none_is_not_some : {A : Type 0} (x : A) → None ≡ Some x → ⊥
 none_is_not_some x h = subst (λ o. MatchOption o (Unit {0}) (λ _. ⊥)) h tt
@@ -39,11 +39,11 @@ any_of_more f xs ys more some =
     let found : (n : ℕ) × (is_member xs n ≡ true) × (f n ≡ true) = member_from_any f xs some in
     any_from_member f ys found.0 (more found.0 found.1) found.2
 
--- where some of these pass and none of those does, one of these is none of those
-one_between : (f : ℕ → Bool) (may sure : List ℕ) → list_any f may ≡ true → list_any f sure ≡ false → (n : ℕ) × (is_member may n ≡ true) × (is_member sure n ≡ false)
+-- where some of these pass and none of those does, one of these passes and is none of those
+one_between : (f : ℕ → Bool) (may sure : List ℕ) → list_any f may ≡ true → list_any f sure ≡ false → (n : ℕ) × (f n ≡ true) × (is_member may n ≡ true) × (is_member sure n ≡ false)
 one_between f may sure some none =
     let found : (n : ℕ) × (is_member may n ≡ true) × (f n ≡ true) = member_from_any f may some in
-    (found.0, found.1, not_member f sure found.0 (is_member sure found.0) refl found.2 none)
+    (found.0, found.2, found.1, not_member f sure found.0 (is_member sure found.0) refl found.2 none)
   where
     not_member : (f : ℕ → Bool) (sure : List ℕ) (n : ℕ) (b : Bool) → is_member sure n ≡ b → f n ≡ true → list_any f sure ≡ false → is_member sure n ≡ false
     not_member f sure n true is passes none = absurd (true≢false (sym (any_from_member f sure n is passes) ∙ none))
@@ -85,14 +85,17 @@ sign_holds grants denies (level ∷ levels) (row ∷ rows) s outcomes is =
 later : (level : Level) (levels : List Level) → Any IsUnsettled levels → Any IsUnsettled (level ∷ levels)
 later level levels a = (suc a.0, a.1, omega (arith, a.2), a.3, a.4)
 
+without_rules : (rules : List ℕ) (level : Level) → IsUnsettledBy rules level → IsUnsettled level
+without_rules rules level by = (by.0, by.2, by.3)
+
 -- no sign is given by a level that is not settled, or by one around it
 why_none : (grants denies : List ℕ) (level : Level) (levels : List Level) (denial denials grant grant' : Bool) (above : Option Sign)
     → has_rule_of denies level.sure ≡ denial → has_rule_of denies level.may ≡ denials → has_rule_of grants level.sure ≡ grant → has_rule_of grants level.may ≡ grant'
     → (above ≡ None → Any IsUnsettled levels) → sign_by (said denial denials grant grant') above ≡ None → Any IsUnsettled (level ∷ levels)
 why_none grants denies level levels true denials grant grant' above d1 d2 g1 g2 up is = absurd (none_is_not_some Deny (sym is))
-why_none grants denies level levels false true grant grant' above d1 d2 g1 g2 up is = (0, level, omega arith, refl, one_between (is_member denies) level.may level.sure d2 d1)
+why_none grants denies level levels false true grant grant' above d1 d2 g1 g2 up is = (0, level, omega arith, refl, without_rules denies level (one_between (is_member denies) level.may level.sure d2 d1))
 why_none grants denies level levels false false true grant' above d1 d2 g1 g2 up is = absurd (none_is_not_some Grant (sym is))
-why_none grants denies level levels false false false true above d1 d2 g1 g2 up is = (0, level, omega arith, refl, one_between (is_member grants) level.may level.sure g2 g1)
+why_none grants denies level levels false false false true above d1 d2 g1 g2 up is = (0, level, omega arith, refl, without_rules grants level (one_between (is_member grants) level.may level.sure g2 g1))
 why_none grants denies level levels false false false false above d1 d2 g1 g2 up is = later level levels (up is)
 
 pub none_is_unsettled : (grants denies : List ℕ) (levels : List Level) → sign_of_levels grants denies levels ≡ None → Any IsUnsettled levels
@@ -100,6 +103,23 @@ none_is_unsettled grants denies [] is = absurd (none_is_not_some Deny (sym is))
 none_is_unsettled grants denies (level ∷ levels) is =
     why_none grants denies level levels (has_rule_of denies level.sure) (has_rule_of denies level.may) (has_rule_of grants level.sure) (has_rule_of grants level.may) (sign_of_levels grants denies levels)
     refl refl refl refl (none_is_unsettled grants denies levels) is
+
+-- no sign is given by the innermost level at which a rule may select
+stops_there : (grants denies : List ℕ) (level : Level) (levels : List Level) (denial denials grant grant' : Bool) (above : Option Sign)
+    → has_rule_of denies level.sure ≡ denial → has_rule_of denies level.may ≡ denials → has_rule_of grants level.sure ≡ grant → has_rule_of grants level.may ≡ grant'
+    → (above ≡ None → IsHeldUp grants denies levels) → sign_by (said denial denials grant grant') above ≡ None
+    → MatchBool (denials || grant') (IsUnsettledBy denies level ⊎ IsUnsettledBy grants level) (IsHeldUp grants denies levels)
+stops_there grants denies level levels true denials grant grant' above d1 d2 g1 g2 up is = absurd (none_is_not_some Deny (sym is))
+stops_there grants denies level levels false true grant grant' above d1 d2 g1 g2 up is = inl (one_between (is_member denies) level.may level.sure d2 d1)
+stops_there grants denies level levels false false true grant' above d1 d2 g1 g2 up is = absurd (none_is_not_some Grant (sym is))
+stops_there grants denies level levels false false false true above d1 d2 g1 g2 up is = inr (one_between (is_member grants) level.may level.sure g2 g1)
+stops_there grants denies level levels false false false false above d1 d2 g1 g2 up is = up is
+
+pub none_is_held_up : (grants denies : List ℕ) (levels : List Level) → sign_of_levels grants denies levels ≡ None → IsHeldUp grants denies levels
+none_is_held_up grants denies [] is = absurd (none_is_not_some Deny (sym is))
+none_is_held_up grants denies (level ∷ levels) is =
+    stops_there grants denies level levels (has_rule_of denies level.sure) (has_rule_of denies level.may) (has_rule_of grants level.sure) (has_rule_of grants level.may) (sign_of_levels grants denies levels)
+    refl refl refl refl (none_is_held_up grants denies levels) is
 
 -- ---- rules
 

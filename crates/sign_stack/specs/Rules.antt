@@ -1,5 +1,5 @@
 -- The rows of a document and its rules, and what rows may come to be. This project's own.
-use Rattle.std.specs.Prelude.{◌≡◌, ℕ, Bool, true, false, ◌||◌, List, [], ◌∷◌, map}
+use Rattle.std.specs.Prelude.{◌≡◌, ◌⊎◌, ℕ, Bool, true, false, ◌||◌, List, [], ◌∷◌, map}
 use Rattle.std.specs.Bool.{MatchBool}
 use Rattle.std.specs.List.{slice_get}
 use Rattle.std.specs.Option.{option_map_or}
@@ -47,10 +47,24 @@ AreOutcomes [] (row ∷ rows) = ⊥
 AreOutcomes (level ∷ levels) [] = ⊥
 AreOutcomes (level ∷ levels) (row ∷ rows) = IsOutcome level row × AreOutcomes levels rows
 
--- The level holds a rule that may select, and doesn't surely.
+-- Some rule of the level may select there and isn't sure to.
 abbrev pub IsUnsettled : Level → Type 0
 IsUnsettled level =
     (rule : ℕ) × (is_member level.may rule ≡ true) × (is_member level.sure rule ≡ false)
+
+-- Some rule of these may select at the level and isn't sure to.
+abbrev pub IsUnsettledBy : List ℕ → Level → Type 0
+IsUnsettledBy rules level =
+    (rule : ℕ) × (is_member rules rule ≡ true)
+    × (is_member level.may rule ≡ true) × (is_member level.sure rule ≡ false)
+
+-- At the innermost level at which a rule may select, some rule may and isn't sure to.
+abbrev pub IsHeldUp : List ℕ → List ℕ → List Level → Type 0
+IsHeldUp grants denies [] = ⊥
+IsHeldUp grants denies (level ∷ levels) =
+    MatchBool (has_rule_of denies level.may || has_rule_of grants level.may)
+    (IsUnsettledBy denies level ⊎ IsUnsettledBy grants level)
+    (IsHeldUp grants denies levels)
 
 -- Each level has settled to its row, from the innermost one up to the first at which one of these
 -- rules selects.

@@ -10,7 +10,7 @@ ghost use Rattle.acl_model.specs.declared.rule.Sign.{Sign};
 ghost use Rattle.acl_model.specs.declared.rule.Sign.TheVariants.{Grant, Deny};
 ghost use Rattle.sign_stack.specs.declared.level.Level.{Level};
 ghost use Rattle.sign_stack.specs.Levels.{sign_of_levels, rule_of_levels};
-ghost use Rattle.sign_stack.specs.Rules.{numbers_of_sign, settled_level, settled_levels, AreOutcomes, AreSettledToDecider, IsUnsettled};
+ghost use Rattle.sign_stack.specs.Rules.{numbers_of_sign, settled_level, settled_levels, AreOutcomes, AreSettledToDecider, IsHeldUp, IsUnsettled};
 
 /// The rows of the rules that select an element and its ancestors give its sign, and the rule that
 /// an explanation tells.
@@ -24,14 +24,17 @@ pub fn rows_give_signs()
 {}
 
 /// A sign that is given before all rows are settled holds whatever they come to be. None is given
-/// only where a level holds a rule that may select and doesn't surely. The rule is right once the
-/// levels up to the decider are settled.
+/// only where some rule of a level may select there and isn't sure to, and that level is the
+/// innermost at which a rule may select. The rule is right once the levels up to the decider are
+/// settled.
 pub fn unsettled_rows_are_told()
     ensures sign { (grants denies : List ℕ) (levels : List Level) (rows : List (List ℕ)) (s : Sign)
         → AreOutcomes levels rows → sign_of_levels grants denies levels ≡ Some s
         → sign_of_levels grants denies (map settled_level rows) ≡ Some s }
     ensures none { (grants denies : List ℕ) (levels : List Level)
         → sign_of_levels grants denies levels ≡ None → Any IsUnsettled levels }
+    ensures held_up { (grants denies : List ℕ) (levels : List Level)
+        → sign_of_levels grants denies levels ≡ None → IsHeldUp grants denies levels }
     ensures rule { (grants denies : List ℕ) (levels : List Level) (rows : List (List ℕ))
         → AreSettledToDecider grants denies levels rows
         → rule_of_levels grants denies levels
