@@ -1,5 +1,5 @@
-//! What holds bytes that are read by their place. A store that doesn't tell what it holds may answer
-//! anything of at most the asked length, and may answer differently each time.
+//! Stores: bytes that are read by their place. Of a store that doesn't tell its bytes no more is
+//! known of an answer than how long it can be, and asked twice it may say two things.
 ghost use Rattle.std.specs.Prelude.{◌≡◌, ℕ, Option, ◌-◌, List, length, take, drop, min, is_some, IfOk, IfSome, OnOk, OnErr};
 ghost use Rattle.std.specs.Io.{ReadsAtMost};
 ghost use Rattle.acl_outside.specs.Outside.{Rose, NotFallen, StoreRead, Serves, KeepsServed};

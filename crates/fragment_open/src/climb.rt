@@ -78,7 +78,8 @@ impl Climb {
         ensures fragments { result.fragments ≡ self.fragments }
         ensures index { result.index ≡ self.index }
         ensures level { result.level ≡ self.level + 1 }
-        ensures digest { result.digest ≡ sha256 (parent_string (index_at self.index self.level) self.digest sibling.now) }
+        ensures digest { result.digest
+            ≡ sha256 (parent_string (index_at self.index self.level) self.digest sibling.now) }
     {
         let digest = if self.at % 2 == 0 {
             last.digest_over(&self.digest, sibling)
@@ -103,13 +104,16 @@ fn read_sibling<S: Store>(store: &mut S, climb: &Climb) -> Result<[u8; 32], Read
     ensures told { Told (S.served store.old) (S.served store.new) (λ reads. MatchResult result
         (λ digest. IsSibling climb.now.fragments climb.now.index climb.now.level digest reads)
         (λ fault. LacksSibling climb.now.fragments climb.now.index climb.now.level fault reads)) }
-    ensures held { (d : Doc) (key : List ℕ) → HoldsFile (S.holds store.old) climb.now.fragments d key
+    ensures held { (d : Doc) (key : List ℕ)
+        → HoldsFile (S.holds store.old) climb.now.fragments d key
         → GivesOrFails result (λ digest. digest) (sibling_held d key climb.now.level climb.now.at) }
     ensures constant { S.holds store.new ≡ S.holds store.old }
-    ensures cause { IsErrOf result ReadFault.StoreFault → Rose (S.faults store.old) (S.faults store.new) }
+    ensures cause { IsErrOf result ReadFault.StoreFault
+        → Rose (S.faults store.old) (S.faults store.new) }
     ensures never_falls { NotFallen (S.faults store.old) (S.faults store.new) }
     ensures quiet { OnOk result (S.faults store.new ≡ S.faults store.old) }
-    ensures quiet_else { IfErr result (λ fault. IsQuietElse fault (S.faults store.old) (S.faults store.new)) }
+    ensures quiet_else { IfErr result (λ fault.
+        IsQuietElse fault (S.faults store.old) (S.faults store.new)) }
 {
     let mut digest = [0; 32];
     let sibling = climb.sibling();
@@ -130,12 +134,15 @@ fn step<S: Store>(store: &mut S, climb: Climb, last: &mut Last) -> Result<Climb,
     ensures held { (d : Doc) (key : List ℕ) → HoldsFile (S.holds store.old) climb.fragments d key
         → climb.digest ≡ digest_held d key climb.level (index_at climb.index climb.level)
         → GivesOrFails result (λ next. next.digest) (digest_held d key (climb.level + 1) (index_at climb.index (climb.level + 1))) }
-    ensures next { IfOk result (λ next. IsNext climb.fragments climb.index (climb.level + 1) next.fragments next.index next.level) }
+    ensures next { IfOk result (λ next.
+        IsNext climb.fragments climb.index (climb.level + 1) next.fragments next.index next.level) }
     ensures constant { S.holds store.new ≡ S.holds store.old }
-    ensures cause { IsErrOf result ReadFault.StoreFault → Rose (S.faults store.old) (S.faults store.new) }
+    ensures cause { IsErrOf result ReadFault.StoreFault
+        → Rose (S.faults store.old) (S.faults store.new) }
     ensures never_falls { NotFallen (S.faults store.old) (S.faults store.new) }
     ensures quiet { OnOk result (S.faults store.new ≡ S.faults store.old) }
-    ensures quiet_else { IfErr result (λ fault. IsQuietElse fault (S.faults store.old) (S.faults store.new)) }
+    ensures quiet_else { IfErr result (λ fault.
+        IsQuietElse fault (S.faults store.old) (S.faults store.new)) }
 {
     let sibling = read_sibling(store, &climb)?;
     Ok(climb.above(&sibling, last))
@@ -157,12 +164,15 @@ pub(crate) fn climb_to<S: Store>(
     ensures held { (d : Doc) (key : List ℕ) → HoldsFile (S.holds store.old) from.fragments d key
         → from.digest ≡ digest_held d key from.level (index_at from.index from.level)
         → GivesOrFails result (λ end. end.digest) (digest_held d key goal (index_at from.index goal)) }
-    ensures end { IfOk result (λ end. IsNext from.fragments from.index goal end.fragments end.index end.level) }
+    ensures end { IfOk result (λ end.
+        IsNext from.fragments from.index goal end.fragments end.index end.level) }
     ensures constant { S.holds store.new ≡ S.holds store.old }
-    ensures cause { IsErrOf result ReadFault.StoreFault → Rose (S.faults store.old) (S.faults store.new) }
+    ensures cause { IsErrOf result ReadFault.StoreFault
+        → Rose (S.faults store.old) (S.faults store.new) }
     ensures never_falls { NotFallen (S.faults store.old) (S.faults store.new) }
     ensures quiet { OnOk result (S.faults store.new ≡ S.faults store.old) }
-    ensures quiet_else { IfErr result (λ fault. IsQuietElse fault (S.faults store.old) (S.faults store.new)) }
+    ensures quiet_else { IfErr result (λ fault.
+        IsQuietElse fault (S.faults store.old) (S.faults store.new)) }
 {
     let mut climb = from;
     'up: while climb.level < goal {

@@ -28,10 +28,12 @@ fn read_header<S: Store>(store: &mut S) -> Result<Header, ReadFault>
         → GivesOrFails result (λ header. header) (document_header d key) }
     ensures range { IfOk result (λ header. IsInRange header) }
     ensures constant { S.holds store.new ≡ S.holds store.old }
-    ensures cause { IsErrOf result ReadFault.StoreFault → Rose (S.faults store.old) (S.faults store.new) }
+    ensures cause { IsErrOf result ReadFault.StoreFault
+        → Rose (S.faults store.old) (S.faults store.new) }
     ensures never_falls { NotFallen (S.faults store.old) (S.faults store.new) }
     ensures quiet { OnOk result (S.faults store.new ≡ S.faults store.old) }
-    ensures quiet_else { IfErr result (λ fault. IsQuietElse fault (S.faults store.old) (S.faults store.new)) }
+    ensures quiet_else { IfErr result (λ fault.
+        IsQuietElse fault (S.faults store.old) (S.faults store.new)) }
 {
     let mut bytes = [0; 64];
     read_whole(store, 0, &mut bytes)?;
@@ -51,10 +53,12 @@ fn read_top<S: Store>(store: &mut S, fragments: u32) -> Result<[u8; 32], ReadFau
     ensures held { (d : Doc) (key : List ℕ) → HoldsFile (S.holds store.old) fragments d key
         → GivesOrFails result (λ top. top) (digest_held d key (top_level fragments) 0) }
     ensures constant { S.holds store.new ≡ S.holds store.old }
-    ensures cause { IsErrOf result ReadFault.StoreFault → Rose (S.faults store.old) (S.faults store.new) }
+    ensures cause { IsErrOf result ReadFault.StoreFault
+        → Rose (S.faults store.old) (S.faults store.new) }
     ensures never_falls { NotFallen (S.faults store.old) (S.faults store.new) }
     ensures quiet { OnOk result (S.faults store.new ≡ S.faults store.old) }
-    ensures quiet_else { IfErr result (λ fault. IsQuietElse fault (S.faults store.old) (S.faults store.new)) }
+    ensures quiet_else { IfErr result (λ fault.
+        IsQuietElse fault (S.faults store.old) (S.faults store.new)) }
 {
     let mut top = [0; 32];
     read_whole(
@@ -130,18 +134,23 @@ pub fn begin<S: Store>(store: &mut S, root: [u8; 32], key: [u8; 16]) -> Result<H
         (λ head. IsStarted head.header head.top reads)
         (λ fault. IsNotStarted root key fault reads)) }
     ensures right { IfOk result (λ head. IsUnder root key head.header head.top head.key) }
-    ensures held { (d : Doc) → HoldsDocument (S.holds store.old) d key → file_root d key ≡ root → MatchResult result
+    ensures held { (d : Doc) → HoldsDocument (S.holds store.old) d key → file_root d key ≡ root
+        → MatchResult result
         (λ head. IsHeadOf d key head.header head.top)
         (λ fault. IsStoreFault fault) }
 
-    ensures settled { IfOk result (λ head. Settled (S.served store.new) head.header head.top None None) }
-    ensures settled_held { IfOk result (λ head. AreHeld (S.holds store.new) head.header head.top head.key None) }
+    ensures settled { IfOk result (λ head.
+        Settled (S.served store.new) head.header head.top None None) }
+    ensures settled_held { IfOk result (λ head.
+        AreHeld (S.holds store.new) head.header head.top head.key None) }
 
     ensures constant { S.holds store.new ≡ S.holds store.old }
-    ensures cause { IsErrOf result ReadFault.StoreFault → Rose (S.faults store.old) (S.faults store.new) }
+    ensures cause { IsErrOf result ReadFault.StoreFault
+        → Rose (S.faults store.old) (S.faults store.new) }
     ensures never_falls { NotFallen (S.faults store.old) (S.faults store.new) }
     ensures quiet { OnOk result (S.faults store.new ≡ S.faults store.old) }
-    ensures quiet_else { IfErr result (λ fault. IsQuietElse fault (S.faults store.old) (S.faults store.new)) }
+    ensures quiet_else { IfErr result (λ fault.
+        IsQuietElse fault (S.faults store.old) (S.faults store.new)) }
 {
     let header = read_header(store)?;
     let top = read_top(store, header.fragments())?;

@@ -51,10 +51,12 @@ pub fn reads_of_an_opener_begin_with_its_start()
 /// Good reads under the root of a document's file served its header, and the newest opening read its own fragment; or some name
 /// has one string in what the reads hash and another in the file, with one digest.
 pub fn good_reads_are_of_the_file_or_clash()
-    ensures header { (d : Doc) (key root : List ℕ) (h : Header) (top : List ℕ) (reads : List StoreRead)
+    ensures header { (d : Doc) (key root : List ℕ) (h : Header) (top : List ℕ)
+        (reads : List StoreRead)
         → is_document d ≡ true → AreBytes 16 key → HasRoot d key root → AreChecked root h top reads
         → reads_clash reads d key ≡ false → h ≡ document_header d key }
-    ensures fragment { (d : Doc) (key root : List ℕ) (h : Header) (top : List ℕ) (reads : List StoreRead)
+    ensures fragment { (d : Doc) (key root : List ℕ) (h : Header) (top : List ℕ)
+        (reads : List StoreRead)
         (newest : Opening) (before : List Opening)
         → is_document d ≡ true → AreBytes 16 key → HasRoot d key root → AreChecked root h top reads
         → openings reads ≡ newest ∷ before → reads_clash reads d key ≡ false

@@ -41,14 +41,17 @@ pub(crate) fn open_to<S: Store>(
     ensures told { Told (S.served store.old) (S.served store.new) (λ reads. MatchResult result
         (λ o. IsOpened fragments index goal o.cipher o.chunk o.digest reads)
         (λ fault. IsNotOpened fragments index goal fault reads)) }
-    ensures held { (d : Doc) (key : List ℕ) → HoldsFile (S.holds store.old) fragments d key → MatchResult result
+    ensures held { (d : Doc) (key : List ℕ) → HoldsFile (S.holds store.old) fragments d key
+        → MatchResult result
         (λ o. IsOpenedHeld d key index goal o.cipher o.chunk o.digest)
         (λ fault. IsStoreFault fault) }
     ensures constant { S.holds store.new ≡ S.holds store.old }
-    ensures cause { IsErrOf result ReadFault.StoreFault → Rose (S.faults store.old) (S.faults store.new) }
+    ensures cause { IsErrOf result ReadFault.StoreFault
+        → Rose (S.faults store.old) (S.faults store.new) }
     ensures never_falls { NotFallen (S.faults store.old) (S.faults store.new) }
     ensures quiet { OnOk result (S.faults store.new ≡ S.faults store.old) }
-    ensures quiet_else { IfErr result (λ fault. IsQuietElse fault (S.faults store.old) (S.faults store.new)) }
+    ensures quiet_else { IfErr result (λ fault.
+        IsQuietElse fault (S.faults store.old) (S.faults store.new)) }
 {
     let mut cipher = [0; 256];
     read_whole(store, 64 + 256 * u64::from(index), &mut cipher)?;

@@ -98,13 +98,17 @@ impl<'a, S: Store> Opener<'a, S> {
         root: [u8; 32],
         key: [u8; 16],
     ) -> Result<Opener<'a, S>, ReadFault>
-        ensures same_store { IfOk result (λ opener. opener.store.ghost_name ≡ store.entry.ghost_name) }
-        ensures started { IfOk result (λ opener. Told (S.served store.old) (S.served opener.store.now)
+        ensures same_store { IfOk result (λ opener.
+            opener.store.ghost_name ≡ store.entry.ghost_name) }
+        ensures started { IfOk result (λ opener.
+            Told (S.served store.old) (S.served opener.store.now)
             (IsStarted opener.head.header opener.head.top)) }
-        ensures right { IfOk result (λ opener. IsUnder root key opener.head.header opener.head.top opener.head.key) }
+        ensures right { IfOk result (λ opener.
+            IsUnder root key opener.head.header opener.head.top opener.head.key) }
         ensures fault { IfOk result (λ opener. opener.fault ≡ None) }
         ensures constant { IfOk result (λ opener. S.holds opener.store.now ≡ S.holds store.old) }
-        ensures held { (d : Doc) → HoldsDocument (S.holds store.old) d key → file_root d key ≡ root → MatchResult result
+        ensures held { (d : Doc) → HoldsDocument (S.holds store.old) d key
+            → file_root d key ≡ root → MatchResult result
             (λ opener. IsHeadOf d key opener.head.header opener.head.top)
             (λ fault. IsStoreFault fault) }
     {
@@ -128,21 +132,28 @@ impl<'a, S: Store> Opener<'a, S> {
             FetchEnds result index self.old.head.header self.old.head.top self.old.head.key into.new (since all)) }
         ensures opens { self.old.fault ≡ None
             → Opens result index (S.served self.old.store.now) (S.served self.new.store.now) }
-        ensures grown { Told (S.served self.old.store.now) (S.served self.new.store.now) (λ more. list_any is_start more ≡ false) }
+        ensures grown { Told (S.served self.old.store.now) (S.served self.new.store.now) (λ more.
+            list_any is_start more ≡ false) }
         ensures held { (d : Doc) → HoldsDocument (S.holds self.old.store.now) d self.old.head.key
             → file_root d self.old.head.key ≡ root_by self.old.head.header self.old.head.top → MatchResult result
             (λ done. into.new ≡ slice_index_or (fragments (plain d)) index [])
             (λ fault. IsStoreFault fault) }
 
         ensures untouched { OnErr result (into.new ≡ into.old) }
-        ensures stays { MatchResult result (λ done. self.new.fault ≡ None) (λ fault. self.new.fault ≡ Some fault) }
-        ensures again { IfSome self.old.fault (λ fault. (result ≡ Err fault) × (self.new ≡ self.old)) }
+        ensures stays { MatchResult result (λ done. self.new.fault ≡ None) (λ fault.
+            self.new.fault ≡ Some fault) }
+        ensures again { IfSome self.old.fault (λ fault. (result ≡ Err fault)
+            × (self.new ≡ self.old)) }
         ensures constant { S.holds self.new.store.now ≡ S.holds self.old.store.now }
         ensures cause { self.old.fault ≡ None → IsErrOf result ReadFault.StoreFault
             → Rose (S.faults self.old.store.now) (S.faults self.new.store.now) }
-        ensures never_falls { NotFallen (S.faults self.old.store.now) (S.faults self.new.store.now) }
-        ensures quiet { self.old.fault ≡ None → OnOk result (S.faults self.new.store.now ≡ S.faults self.old.store.now) }
-        ensures quiet_else { self.old.fault ≡ None → IfErr result (λ fault. IsQuietElse fault (S.faults self.old.store.now) (S.faults self.new.store.now)) }
+        ensures never_falls { NotFallen (S.faults self.old.store.now)
+            (S.faults self.new.store.now) }
+        ensures quiet { self.old.fault ≡ None
+            → OnOk result (S.faults self.new.store.now ≡ S.faults self.old.store.now) }
+        ensures quiet_else { self.old.fault ≡ None
+            → IfErr result (λ fault.
+            IsQuietElse fault (S.faults self.old.store.now) (S.faults self.new.store.now)) }
     {
         match self.fault {
             Some(fault) => Err(fault),
@@ -158,21 +169,26 @@ impl<'a, S: Store> Opener<'a, S> {
         ensures same_head { self.new.head ≡ self.old.head }
         ensures ends { IfSome (S.served self.new.store.now) (λ all.
             FetchEnds result index self.old.head.header self.old.head.top self.old.head.key into.new (since all)) }
-        ensures opens { Opens result index (S.served self.old.store.now) (S.served self.new.store.now) }
-        ensures grown { Told (S.served self.old.store.now) (S.served self.new.store.now) (λ more. list_any is_start more ≡ false) }
+        ensures opens { Opens result index (S.served self.old.store.now)
+            (S.served self.new.store.now) }
+        ensures grown { Told (S.served self.old.store.now) (S.served self.new.store.now) (λ more.
+            list_any is_start more ≡ false) }
         ensures held { (d : Doc) → HoldsDocument (S.holds self.old.store.now) d self.old.head.key
             → file_root d self.old.head.key ≡ root_by self.old.head.header self.old.head.top → MatchResult result
             (λ done. into.new ≡ slice_index_or (fragments (plain d)) index [])
             (λ fault. IsStoreFault fault) }
 
         ensures untouched { OnErr result (into.new ≡ into.old) }
-        ensures stays { MatchResult result (λ done. self.new.fault ≡ None) (λ fault. self.new.fault ≡ Some fault) }
+        ensures stays { MatchResult result (λ done. self.new.fault ≡ None) (λ fault.
+            self.new.fault ≡ Some fault) }
         ensures constant { S.holds self.new.store.now ≡ S.holds self.old.store.now }
         ensures cause { IsErrOf result ReadFault.StoreFault
             → Rose (S.faults self.old.store.now) (S.faults self.new.store.now) }
-        ensures never_falls { NotFallen (S.faults self.old.store.now) (S.faults self.new.store.now) }
+        ensures never_falls { NotFallen (S.faults self.old.store.now)
+            (S.faults self.new.store.now) }
         ensures quiet { OnOk result (S.faults self.new.store.now ≡ S.faults self.old.store.now) }
-        ensures quiet_else { IfErr result (λ fault. IsQuietElse fault (S.faults self.old.store.now) (S.faults self.new.store.now)) }
+        ensures quiet_else { IfErr result (λ fault.
+            IsQuietElse fault (S.faults self.old.store.now) (S.faults self.new.store.now)) }
     {
         let top = self.head.top;
         let aim = aim_of(self.head.top_level, top, self.kept, index);
@@ -208,9 +224,11 @@ impl<'a, S: Store> Opener<'a, S> {
 
     /// Keeps the digest of a chunk, and goes on.
     fn keep(&mut self, chunk: u32, digest: [u8; 32])
-        requires settled { Settled (S.served self.old.store.now) self.old.head.header self.old.head.top
+        requires settled { Settled
+            (S.served self.old.store.now) self.old.head.header self.old.head.top
             (Some (record { chunk = chunk; digest = digest })) None }
-        requires held { AreHeld (S.holds self.old.store.now) self.old.head.header self.old.head.top self.old.head.key
+        requires held { AreHeld
+            (S.holds self.old.store.now) self.old.head.header self.old.head.top self.old.head.key
             (Some (record { chunk = chunk; digest = digest })) }
         ensures same_store { self.new.store.ghost_name ≡ self.old.store.ghost_name }
         ensures same_now { self.new.store.now ≡ self.old.store.now }

@@ -12,10 +12,12 @@ pub(crate) fn read_whole<S: Store>(store: &mut S, at: u64, into: &mut [u8]) -> R
     ensures told { Told (S.served store.old) (S.served store.new) (ReadsWhole result at into.new) }
     ensures given { IfSome (S.holds store.old) (GivesWhole result at into.new) }
     ensures constant { S.holds store.new ≡ S.holds store.old }
-    ensures cause { IsErrOf result ReadFault.StoreFault → Rose (S.faults store.old) (S.faults store.new) }
+    ensures cause { IsErrOf result ReadFault.StoreFault
+        → Rose (S.faults store.old) (S.faults store.new) }
     ensures never_falls { NotFallen (S.faults store.old) (S.faults store.new) }
     ensures quiet { OnOk result (S.faults store.new ≡ S.faults store.old) }
-    ensures quiet_else { IfErr result (λ fault. IsQuietElse fault (S.faults store.old) (S.faults store.new)) }
+    ensures quiet_else { IfErr result (λ fault.
+        IsQuietElse fault (S.faults store.old) (S.faults store.new)) }
 {
     let Ok(count) = store.read_at(at, into) else {
         return Err(ReadFault::StoreFault);

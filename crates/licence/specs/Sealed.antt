@@ -1,4 +1,4 @@
--- A sealed licence: the seal line, and behind its line feed the body. The seal is the HMAC of the body's bytes under the
+-- A sealed licence: the seal line, and behind its line feed the body. The seal is made of the body's bytes by HMAC, under the
 -- seal key. This project's own format.
 use Rattle.std.specs.Prelude.{◌≡◌, ◌≢◌, ℕ, nat_eq, List, ◌∷◌, ◌++◌, codes, Option, Some, None, Result, Ok, Err, if◌then◌else◌}
 use Rattle.std.specs.Option.{option_map, option_and_then}

@@ -21,7 +21,7 @@ pub enum LicenceFault {
     /// Behind the 64th rule stands one more.
     #[error("there are more than 64 rules")]
     TooManyRules,
-    /// All lines are right, and the rules have together more than 256 steps, 256 predicate steps or 64 predicates.
+    /// All lines are right, and the rules together pass 256 steps, 256 tests in predicates, or 64 predicates.
     #[error("the rules have too many steps or predicates together")]
     TooManyStates,
     /// There was no memory for the licence.

@@ -38,7 +38,8 @@ pub fn read_licence(
 
 /// The seal line of this seal, and the body.
 fn sealed_text(alloc: Global, seal: &[u8; 32], body: &[u8]) -> Result<Bytes, AllocError>
-    ensures { IfOk result (λ text. text ≡ seal_word ++ (encode_lower seal.now ++ (line_feed ∷ body.now))) }
+    ensures { IfOk result (λ text.
+        text ≡ seal_word ++ (encode_lower seal.now ++ (line_feed ∷ body.now))) }
 {
     let mut text = Vec::new(alloc);
     text.extend_from_slice(b"seal ")?;

@@ -1,6 +1,6 @@
 -- Fragments that are enciphered at their places in a stream, so that equal blocks at different
--- places have different ciphers. This project's format: the plain stream is cut into blocks of 16
--- bytes, numbered from 0 over the whole stream, and into fragments of 16 blocks. The cipher of a
+-- places have different ciphers. This project's format: each 16 bytes of the plain stream are a
+-- block, with numbers that go on from fragment to fragment, and 16 blocks are a fragment. The cipher of a
 -- block is that of FIPS 197 (2001, updated 2023).
 use Rattle.std.specs.Prelude.{ℕ, zero, suc, ◌+◌, ◌*◌, List, [], ◌++◌, take, drop}
 use Rattle.std.specs.Int.{w128, to_be_bytes}
