@@ -22,9 +22,13 @@ unfolding cut_after
 length-cut_after zero bytes = omega arith
 length-cut_after (suc n) bytes = omega (arith, length-cut_after n (drop 256 bytes))
 
-few_pieces : (bytes : List ℕ) → length (pieces bytes) ≤ length bytes + 1
+-- how many pieces bytes have
+pub length-pieces : (bytes : List ℕ) → length (pieces bytes) ≡ (length bytes - 1) / 256 + 1
 unfolding pieces
-few_pieces bytes = omega (arith, length-cut_after ((length bytes - 1) / 256) bytes)
+length-pieces bytes = length-cut_after ((length bytes - 1) / 256) bytes
+
+few_pieces : (bytes : List ℕ) → length (pieces bytes) ≤ length bytes + 1
+few_pieces bytes = omega (arith, length-pieces bytes)
 
 -- a text has no more events than bytes, and one more
 pub few-text_events : (bytes : List ℕ) → length (text_events bytes) ≤ length bytes + 1

@@ -6,4 +6,11 @@ pub mod PlaceLaws
 pub mod SpotLaws
 pub mod BoundLaws
 pub mod TextLaws
-pub mod TestForms
+pub mod FormLaws
+pub mod WalkableLaws
+pub mod BegunLaws
+pub mod OnceLaws
+pub mod KnownLaws
+pub mod MeetLaws
+pub mod CloseLaws
+pub mod CloseExamples

@@ -1,9 +1,9 @@
 -- The spots of a walk over a tree: a new one, one after a step, and one that passed over an
 -- element.
-use Rattle.std.proofs.Common.{◌≡◌, ℕ, ◌<◌, ◌≤◌, List, [], ◌∷◌, ◌++◌, length, ap, sym, subst, ◌∙◌, arith, Bor}
+use Rattle.std.proofs.Common.{◌≡◌, ℕ, ◌<◌, ◌≤◌, List, [], ◌∷◌, ◌++◌, length, drop, ap, sym, subst, ◌∙◌, arith, Bor}
 use Rattle.std.proofs.lemmas.List.{length-map}
 use Rattle.acl_model.specs.declared.document.Element.{Element}
-use Rattle.acl_walk.specs.Nesting.{Nest, at_start, at_finish, tags_after, phase_after}
+use Rattle.acl_walk.specs.Nesting.{Nest, at_start, at_finish, tags_after, content_phase, phase_after}
 use Rattle.acl_walk.specs.OpenElements.{OpenElement, tags_of, content_to_come, finish_to_come}
 use Rattle.acl_walk.specs.Standing.{StandsAt, PassesTo, from_finish}
 use Rattle.acl_walk.specs.TreeEvents.{element_events}
@@ -12,12 +12,13 @@ use Rattle.acl_walk.specs.TreeSteps.{to_come, phase_of, Steps}
 use Rattle.acl_walk.specs.TreeSpots.{EndsWith, IsSpotOf, spot_to_come, spot_place, tree_depth, tree_events}
 use Rattle.acl_walk.specs.SpellLaws.{document_events-spell}
 use Rattle.acl_walk.specs.declared.event.Event.{Event}
+use Rattle.acl_walk.specs.declared.event.Event.TheVariants.{Begin, Attr, HeadEnd, Text, Finish, End}
 use Rattle.acl_walk.specs.declared.tree_step.Now.{Now}
 use Rattle.acl_walk.specs.declared.tree_step.Now.TheVariants as now
 use Rattle.acl_walk.specs.declared.tree_spot.TreeSpot.{TreeSpot}
 use Rattle.acl_walk.proofs.FinishLaws.{from_finish-to_come}
 use Rattle.acl_walk.proofs.NestLaws.{nest-document, nest-from_finish}
-use Rattle.acl_walk.proofs.PlaceLaws.{ends-whole, ends-step, stands-step, nest-step, few-step, ends-from_finish}
+use Rattle.acl_walk.proofs.PlaceLaws.{ends-whole, ends-step, stands-step, nest-step, few-step, ends-from_finish, shorter-from_finish}
 
 -- at the root, with no open element, is a spot
 pub new-is_spot : (k : Tree) (levels : List OpenElement) (root : Bor Element) → CanBeWalked k → levels ≡ [] → root.now ≡ k.doc.root
@@ -32,6 +33,7 @@ new-is_spot k levels root walked none same =
       rest = subst (EndsWith (tree_events k)) (sym whole) (ends-whole (tree_events k));
       nests = subst (λ tags. Nest (length k.names) (tree_depth k) tags at_start (spot_to_come k (record { levels = levels; now = now.Root root }))) (ap tags_of (sym none))
           (subst (Nest (length k.names) (tree_depth k) [] at_start) (sym whole) nests);
+      fresh = λ start. whole;
       few_open = omega (arith, ap length none);
       inside = tt;
     }
@@ -41,6 +43,19 @@ pub new-is_spot_of : (tree k : Tree) (levels : List OpenElement) (root : Bor Ele
     → IsSpotOf k (record { levels = levels; now = now.Root root })
 new-is_spot_of tree k levels root walked is none same =
     subst (λ t. IsSpotOf t (record { levels = levels; now = now.Root root })) is (new-is_spot tree levels root walked none same)
+
+content-not_start : (tags : List ℕ) → content_phase tags ≡ at_start → ⊥
+content-not_start [] start = cc
+content-not_start (tag ∷ tags) start = cc
+
+-- behind an event no spot is before the first one
+after-not_start : (tags : List ℕ) (event : Event) → phase_after tags event ≡ at_start → ⊥
+after-not_start tags (Begin tag below) start = cc
+after-not_start tags (Attr piece) start = cc
+after-not_start tags HeadEnd start = cc
+after-not_start tags (Text piece) start = cc
+after-not_start tags (Finish tag) start = content-not_start (drop 1 tags) start
+after-not_start tags End start = cc
 
 -- so is the place behind a step
 pub step-is_spot : (k : Tree) (old new : TreeSpot) (event : Event) → IsSpotOf k old
@@ -58,6 +73,7 @@ step-is_spot k old new event made steps =
       rest = ends-step (tree_events k) event (spot_to_come k old) (spot_to_come k new) steps.comes made.rest;
       nests = subst (λ p. Nest N deep (tags_of new.levels) p (spot_to_come k new)) (sym steps.phase)
           (subst (λ t. Nest N deep t (phase_after tags event) (spot_to_come k new)) (sym steps.open_tags) next.1);
+      fresh = λ start. absurd (after-not_start tags event (sym steps.phase ∙ start));
       few_open = omega (arith, after, few, ap length steps.open_tags);
       inside = steps.inside;
     }
@@ -67,6 +83,9 @@ pub step-stands : (k : Tree) (old new : TreeSpot) (event : Event) → IsSpotOf k
     → Steps k.names event (spot_to_come k old) (tags_of old.levels) new.now new.levels
     → StandsAt (tree_events k) (spot_place k old) event (spot_place k new)
 step-stands k old new event made steps = stands-step (tree_events k) event (spot_to_come k old) (spot_to_come k new) steps.comes made.rest
+
+finish_not_start : at_finish ≡ at_start → ⊥
+finish_not_start start = cc
 
 -- a spot that passes over the innermost open element stays one
 pub pass-is_spot : (k : Tree) (levels : List OpenElement) (place : Now) → 0 < length levels
@@ -79,6 +98,7 @@ pass-is_spot k (level ∷ levels) place some made =
       rest = subst (EndsWith (tree_events k)) at (ends-from_finish (tree_events k) 0 (to_come k.names place (level ∷ levels)) made.rest);
       nests = subst (Nest (length k.names) (tree_depth k) (tags_of (level ∷ levels)) at_finish) at
           (nest-from_finish (length k.names) (tree_depth k) [] level.tag (tags_of levels) (phase_of place (tags_of (level ∷ levels))) (to_come k.names place (level ∷ levels)) made.nests);
+      fresh = λ start. absurd (finish_not_start start);
       few_open = made.few_open;
       inside = tt;
     }
@@ -91,3 +111,11 @@ pass-to_finish k [] place some made = absurd (omega (arith, some))
 pass-to_finish k (level ∷ levels) place some made =
     let after : IsSpotOf k (record { levels = level ∷ levels; now = now.Finish }) = pass-is_spot k (level ∷ levels) place some made in
     after.rest.same ∙ sym (ap (from_finish 0) made.rest.same ∙ from_finish-to_come k.names place level levels)
+
+-- and no more events are to come than were
+pub pass-no_more : (k : Tree) (levels : List OpenElement) (place : Now) → 0 < length levels
+    → length (finish_to_come k.names levels) ≤ length (to_come k.names place levels)
+pass-no_more k [] place some = absurd (omega (arith, some))
+pass-no_more k (level ∷ levels) place some =
+    subst (λ events. length events ≤ length (to_come k.names place (level ∷ levels))) (from_finish-to_come k.names place level levels)
+    (shorter-from_finish 0 (to_come k.names place (level ∷ levels)))

@@ -29,8 +29,7 @@ pub record Goes {Walk Fixed : Type 0} (went : Walk → Option Doc → Places →
     : Type 0 where
   -- A walk went to itself under every test.
   pub nowhere : (w : Walk) (o : Option Doc) (ps : Places) → went w o ps w
-  -- Two stretches under one test, the second from where the first ends, are together a stretch
-  -- under that test.
+  -- A stretch and one that goes on from its end, both under one test, make one under that test.
   pub onward : (u v w : Walk) (o : Option Doc) (ps : Places)
       → went u o ps v → went v o ps w → went u o ps w
   -- A stretch under a test is one under every test that passes all its places.
@@ -53,5 +52,5 @@ pub record GoesStraight {Walk Spot : Type 0} (straight : Walk → Spot → Walk 
     : Type 0 where
   -- It holds of a stretch without a call.
   pub nowhere : (w : Walk) (a : Spot) → straight w a w a
-  -- Two stretches, the second from where the first ends, are together one.
+  -- A stretch and one that goes on from its end make one.
   pub onward : (u v w : Walk) (a b c : Spot) → straight u a v b → straight v b w c → straight u a w c

@@ -6,8 +6,13 @@ pub mod Following
 pub mod EventText
 pub mod TreeEvents
 pub mod Listed
+pub mod Open
+pub mod Begun
+pub mod Closes
+pub mod CloseExamples
 pub mod OpenElements
 pub mod Levels
+pub mod Passes
 pub mod TreeState
 pub mod TreeSteps
 pub mod TreeSpots
@@ -16,4 +21,6 @@ pub mod EventEquations
 pub mod PieceLaws
 pub mod TagLaws
 pub mod SpellLaws
+pub mod OpenLaws
+pub mod PassLaws
 pub mod TreeWalkLaws

@@ -6,8 +6,8 @@ use Rattle.acl_bits.specs.declared.piece.Piece.{Piece}
 abbrev pub piece_of : List ℕ → Bool → Piece
 piece_of bytes last = record { bytes = record { items = bytes }; last = last }
 
--- Pieces join to bytes where they have 1 to 256 bytes each, or are one empty piece, and only the
--- last is marked.
+-- Pieces join to bytes: none has more than 256 bytes, none is empty beside others, and the mark is
+-- on the last alone.
 pub data Joins : List ℕ → List Piece → Type 0 where
   alone : (bytes : List ℕ) → length bytes ≤ 256 → Joins bytes (piece_of bytes true ∷ [])
   onward : (front back : List ℕ) (pieces : List Piece)

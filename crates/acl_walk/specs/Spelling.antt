@@ -19,8 +19,8 @@ use Rattle.acl_walk.specs.declared.event.Event.TheVariants.{Begin, Attr, HeadEnd
 unfoldable pub tag_of : List (List ℕ) → List ℕ → Option ℕ
 tag_of names name = if is_dummy_name name then Some 256 else name_number names name
 
--- The set has the number of each name inside the element, other than the dummy's; and it isn't
--- empty where an element is inside, be it a dummy alone.
+-- The set has the number of each name inside the element, other than the dummy's; and it has
+-- some number where there is an element inside, a lone dummy too.
 pub record Covers (names : List (List ℕ)) (below : List ℕ) (e : Element) : Type 0 where
   pub names_inside : (name : List ℕ) → Contains (tag_set e) name → is_dummy_name name ≡ false
       → IfSome (name_number names name) (λ n. is_member below n ≡ true)

@@ -1,7 +1,7 @@
 -- What holds of the spots of a walk over a tree. This project's own.
 use Rattle.std.specs.Prelude.{◌≡◌, ℕ, ◌-◌, ◌≤◌, List, length, drop}
 use Rattle.acl_model.specs.Document.{height}
-use Rattle.acl_walk.specs.Nesting.{Stage, Nest}
+use Rattle.acl_walk.specs.Nesting.{Stage, Nest, at_start}
 use Rattle.acl_walk.specs.OpenElements.{tags_of}
 use Rattle.acl_walk.specs.TreeEvents.{document_events}
 use Rattle.acl_walk.specs.TreeState.{Tree, CanBeWalked}
@@ -36,11 +36,14 @@ abbrev pub tree_depth : Tree → ℕ
 tree_depth tree = height tree.doc.root
 
 -- A walk over this tree made the spot: what is to come from it is the end of the tree's list, and
--- nests; and at most so many elements are open as stand in each other in the document.
+-- nests; before the first event it is the whole list; and at most so many elements are open as
+-- stand in each other in the document.
 pub record IsSpotOf (tree : Tree) (spot : TreeSpot) : Type 0 where
   pub walked : CanBeWalked tree
   pub rest : EndsWith (tree_events tree) (spot_to_come tree spot)
   pub nests : Nest (length tree.names) (tree_depth tree) (tags_of spot.levels)
       (phase_of spot.now (tags_of spot.levels)) (spot_to_come tree spot)
+  pub fresh : phase_of spot.now (tags_of spot.levels) ≡ at_start
+      → spot_to_come tree spot ≡ tree_events tree
   pub few_open : length spot.levels ≤ tree_depth tree
   pub inside : IsInside spot.now spot.levels

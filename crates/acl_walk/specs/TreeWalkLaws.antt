@@ -1,16 +1,17 @@
 -- The laws of a walk over a tree.
 use Rattle.std.specs.Prelude.{◌≡◌, ℕ, ◌^◌, ◌<◌, ◌≤◌, true, nat_le, Some, None, List, [], ◌∷◌, ◌++◌, length, refl}
-use Rattle.std.proofs.Common.{◌∙◌, arith, length-append}
+use Rattle.std.proofs.Common.{ap, ◌∙◌, arith, length-append}
 use Rattle.std.specs.Cmp.{second_so}
 use Rattle.std.proofs.lemmas.List.{length-map}
 use Rattle.std.proofs.lemmas.Bool.Decides.{nat_tests}
 use Rattle.acl_model.specs.declared.document.Doc.{Doc}
 use Rattle.acl_walk.specs.Following.{Goes}
 use Rattle.acl_walk.specs.Listed.{AreNames, IsListOf}
+use Rattle.acl_walk.specs.Nesting.{Stage, first_stage}
 use Rattle.acl_walk.specs.OpenElements.{OpenElement, items_events, content_to_come, finish_to_come, tags_of}
 use Rattle.acl_walk.specs.TreeEvents.{text_events, attribute_events, element_events}
 use Rattle.acl_walk.specs.TreeState.{Tree, TreeState}
-use Rattle.acl_walk.specs.TreeSpots.{IsSpotOf, spot_to_come, spot_place, tree_depth, tree_events}
+use Rattle.acl_walk.specs.TreeSpots.{IsSpotOf, spot_to_come, spot_place, spot_stage, tree_depth, tree_events}
 use Rattle.acl_walk.specs.TreeSteps.{to_come, head_to_come}
 use Rattle.acl_walk.specs.declared.event.Event.{Event}
 use Rattle.acl_walk.specs.declared.event.Event.TheVariants.{HeadEnd, Finish}
@@ -57,6 +58,10 @@ tree_listed k s d made origin = record { spelled = document_events-spell k.names
 -- A spot is within the list.
 pub tree_within : (k : Tree) (s : TreeSpot) (d : Doc) → IsSpotOf k s → d ≡ k.doc → Unit {0} → spot_place k s < length (tree_events k)
 tree_within k s d made origin place = omega (arith, made.rest.shorter, some-to_come k.names s.now s.levels)
+
+-- A spot before the first event is at the first place.
+pub tree_fresh : (k : Tree) (s : TreeSpot) (d : Doc) → IsSpotOf k s → spot_stage s ≡ first_stage → d ≡ k.doc → Unit {0} → spot_place k s ≡ 0
+tree_fresh k s d made first origin place = omega (arith, ap length (made.fresh (ap (λ (stage : Stage). stage.phase) first)))
 
 -- The events to come are fewer than 2^64.
 pub tree_few : (k : Tree) (s : TreeSpot) → IsSpotOf k s → length (spot_to_come k s) < 2 ^ 64

@@ -9,8 +9,8 @@ pub enum Event {
     Begin {
         /// The place of its name among the names of the walk, from 0; 256 for a dummy.
         tag: u16,
-        /// The numbers of the names inside it, and maybe others. It isn't empty where an element
-        /// is inside, be it a dummy alone.
+        /// The numbers of the names inside it, and maybe others. It has some number where there
+        /// is an element inside, a lone dummy too.
         below: Row,
     },
     /// A piece of an attribute of the innermost open element.

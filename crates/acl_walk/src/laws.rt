@@ -35,8 +35,8 @@ pub fn trees_spell_documents()
         → Spells names (Some d) (document_events names d) }
 {}
 
-/// A document has no more events than its text has bytes, and one End. So a text of fewer than
-/// 2^64 - 1 bytes is of a document that can be walked.
+/// A document has no more events than its text has bytes, and one End. So where the text has fewer
+/// than 2^64 - 1 bytes, there are fewer than 2^64 events.
 pub fn events_are_no_more_than_bytes()
     ensures { (names : List (List ℕ)) (d : Doc)
         → length (document_events names d) ≤ length (text d) + 1 }

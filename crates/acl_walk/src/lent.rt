@@ -90,6 +90,8 @@ impl<'a, W: Walk> Walk for Lent<'a, W> {
 
     ghost within = { W.within };
 
+    ghost fresh = { W.fresh };
+
     ghost few = { W.few };
 
     ghost few_open = { W.few_open };

@@ -7,13 +7,11 @@ use super::*;
 use acl_bits::Row;
 use acl_model::{Doc, Name};
 use documents::{WARD, child, element, names, of_bytes, of_text, ward};
-use forms::can_be_walked;
 use std::alloc::Global;
 use std::process::Abort;
 use std::test::Fail;
 
 mod documents;
-mod forms;
 
 /// An event that is looked for. Of the set that a Begin tells, some numbers are looked for.
 #[derive(Clone, Copy, Debug)]
@@ -326,13 +324,36 @@ fn dummies_have_the_tag_256(rt: HostRuntime) -> Result<(), Fail> {
     Ok(())
 }
 
-// A walk is asked for under names that have each name of the document, and no two the same.
+// A document can be walked under its dictionary and under more names, and not where a name is missing
+// or stands twice.
 #[test]
-fn some_names_are_no_names_of_a_walk(rt: HostRuntime) -> Result<(), Fail> {
+fn a_document_is_walked_under_all_its_names(rt: HostRuntime) -> Result<(), Fail> {
     let alloc = rt.alloc();
+    let hospital = ward(alloc)?;
+    assert!(rt; can_be_walked(&hospital, &names(alloc, &WARD)?));
+    assert!(rt;
+        !can_be_walked(&hospital, &names(alloc, &WARD[1..])?),
+        "the first is missing"
+    );
+    assert!(rt;
+        !can_be_walked(&hospital, &names(alloc, &WARD[..7])?),
+        "the last is missing"
+    );
     let doc = of_text(alloc, b"hi")?;
     assert!(rt; can_be_walked(&doc, &names(alloc, &[b"b", b"a"])?));
     assert!(rt; !can_be_walked(&doc, &names(alloc, &[b"b"])?));
     assert!(rt; !can_be_walked(&doc, &names(alloc, &[b"a", b"a"])?));
+    Ok(())
+}
+
+// Attributes and texts have to be of the right form.
+#[test]
+fn a_document_of_a_wrong_form_is_not_walked(rt: HostRuntime) -> Result<(), Fail> {
+    let alloc = rt.alloc();
+    let names = names(alloc, &[b"a"])?;
+    assert!(rt; can_be_walked(&of_bytes(alloc, b"Id CDATA x")?, &names));
+    assert!(rt; !can_be_walked(&of_bytes(alloc, b"Id cdata x")?, &names));
+    assert!(rt; can_be_walked(&of_text(alloc, b"x y")?, &names));
+    assert!(rt; !can_be_walked(&of_text(alloc, b"x\ny")?, &names));
     Ok(())
 }

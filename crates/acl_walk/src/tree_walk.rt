@@ -134,11 +134,13 @@ impl<'a> Walk for TreeWalk<'a> {
         self.taken
     }
 
-    ghost use Rattle.acl_walk.specs.TreeWalkLaws.{tree_listed, tree_within, tree_few, tree_few_open, tree_shallow, tree_named, tree_going};
+    ghost use Rattle.acl_walk.specs.TreeWalkLaws.{tree_listed, tree_within, tree_fresh, tree_few, tree_few_open, tree_shallow, tree_named, tree_going};
 
     ghost listed = { tree_listed };
 
     ghost within = { tree_within };
+
+    ghost fresh = { tree_fresh };
 
     ghost few = { tree_few };
 

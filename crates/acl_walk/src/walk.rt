@@ -45,7 +45,8 @@ pub trait Walk: Drop {
     /// Whether the walk made the spot.
     ghost made: { Fixed → Self.Spot → Type 0 };
 
-    /// Whether the spot is a place of the list. While the walk is sound, each spot that it made is.
+    /// Whether the spot is a place of the list. One that the walk made is, if it was moved only by
+    /// calls after which the walk was sound.
     ghost is_place: { Fixed → Doc → Self.Spot → Type 0 };
 
     /// The place where the spot is, from 0.
@@ -118,8 +119,8 @@ pub trait Walk: Drop {
             → went self.old (Some d) (Only (place (fixed self.old) d spot.old ∷ [])) self.new }
         ensures ahead { straight self.old spot.old self.new spot.new };
 
-    /// Makes the Finish of the innermost open element the next event. Where no element is open it
-    /// changes nothing.
+    /// Moves the spot to the Finish that ends the innermost open element, or nowhere if none is
+    /// open.
     fn pass(&self, spot: &mut Self::Spot)
         requires { made (fixed self.now) spot.old }
         ensures made { made (fixed self.now) spot.new }
@@ -152,6 +153,10 @@ pub trait Walk: Drop {
     /// A spot that is a place of the list is within it.
     ghost within: { (k : Fixed) (s : Self.Spot) (d : Doc) → made k s → is_origin k d
         → is_place k d s → place k d s < length (events k d) };
+
+    /// A spot before the first event is at the first place.
+    ghost fresh: { (k : Fixed) (s : Self.Spot) (d : Doc) → made k s → stage k s ≡ first_stage
+        → is_origin k d → is_place k d s → place k d s ≡ 0 };
 
     /// The bound on the events to come is below 2^64.
     ghost few: { (k : Fixed) (s : Self.Spot) → made k s → to_come k s < 2 ^ 64 };

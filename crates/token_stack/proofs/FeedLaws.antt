@@ -15,7 +15,7 @@ use Rattle.acl_walk.specs.declared.event.Event.TheVariants.{Begin, Attr, HeadEnd
 use Rattle.rule_automata.specs.Compile.{automata_of, states_from, have_no_predicates, is_closed}
 use Rattle.rule_automata.specs.declared.state.State.{State}
 use Rattle.token_stack.specs.Entries.{rules_of}
-use Rattle.token_stack.specs.Open.{OpenPlace, open_after, open_at, tags_of, tags_at}
+use Rattle.acl_walk.specs.Open.{OpenPlace, open_after, open_at, tags_of, tags_at}
 use Rattle.token_stack.specs.Stack.{TokenStack, entries_at, open_elements}
 use Rattle.token_stack.specs.Stand.{levels_after}
 use Rattle.token_stack.specs.Standing.{TokensStandAt, levels_fed, fed}

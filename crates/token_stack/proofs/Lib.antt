@@ -3,6 +3,9 @@ pub mod CutLaws
 pub mod RiseLaws
 pub mod StandLaws
 pub mod RowLaws
+pub mod PassLaws
 pub mod KeptLaws
 pub mod OpenLaws
 pub mod FeedLaws
+pub mod InvariantLaws
+pub mod SignLaws

@@ -24,7 +24,7 @@ use Rattle.acl_walk.specs.TagLaws.{tag_of-dummy, tag_of-name}
 use Rattle.acl_walk.specs.declared.event.Event.{Event}
 use Rattle.acl_walk.specs.declared.event.Event.TheVariants.{Begin, Attr, HeadEnd, Text, Finish, End}
 use Rattle.rule_automata.specs.Meaning.{tag_name, AreTagsOf}
-use Rattle.token_stack.specs.Open.{OpenPlace, next_place, with_child, open_after, open_behind, open_at, tags_of}
+use Rattle.acl_walk.specs.Open.{OpenPlace, next_place, with_child, open_after, open_behind, open_at, tags_of}
 use Rattle.token_stack.specs.Standing.{StandsInDocument, StandInDocument}
 
 -- ---- the tag of a name stands for it

@@ -2,5 +2,6 @@ pub mod Entries
 pub mod Stack
 pub mod Stand
 pub mod Kept
-pub mod Open
 pub mod Standing
+pub mod Invariant
+pub mod SignRows

@@ -15,7 +15,7 @@ pub record TokenStack : Type 0 where
 abbrev pub open_elements : TokenStack → ℕ
 open_elements tokens = length tokens.levels - 1
 
--- The entries at the open element of a level, from 1 at the root. A level that isn't open has none.
+-- The entries of a level: at the root, level 1, and so on inward. There are none past the innermost.
 abbrev pub entries_at : List (List Entry) → ℕ → List Entry
 entries_at levels zero = []
 entries_at levels (suc k) = unwrap_or (slice_get levels (suc k)) []

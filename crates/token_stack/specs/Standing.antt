@@ -9,7 +9,7 @@ use Rattle.rule_automata.specs.Meaning.{AreTagsOf}
 use Rattle.rule_automata.specs.declared.state.State.{State}
 use Rattle.token_stack.specs.declared.entry.Entry.{Entry}
 use Rattle.token_stack.specs.Entries.{entries_below}
-use Rattle.token_stack.specs.Open.{OpenPlace, tags_at, tags_of}
+use Rattle.acl_walk.specs.Open.{OpenPlace, tags_at, tags_of}
 use Rattle.token_stack.specs.Stack.{TokenStack, innermost}
 use Rattle.token_stack.specs.Stand.{levels_after}
 

@@ -13,14 +13,15 @@ ghost use Rattle.acl_model.specs.declared.document.Element.{Element};
 ghost use Rattle.acl_model.specs.declared.rule.Rule.{Rule};
 ghost use Rattle.acl_walk.specs.Nesting.{tags_after};
 ghost use Rattle.acl_walk.specs.Spelling.{Spells};
-ghost use Rattle.acl_walk.specs.Standing.{StandsAt};
+ghost use Rattle.acl_walk.specs.Standing.{StandsAt, PassesTo};
 ghost use Rattle.acl_walk.specs.declared.event.Event.{Event};
 ghost use Rattle.rule_automata.specs.Compile.{automata_of, have_no_predicates, is_closed};
 ghost use Rattle.rule_automata.specs.Meaning.{AreTagsOf, selecting_rules};
 ghost use Rattle.rule_automata.specs.Run.{begun};
 ghost use Rattle.rule_automata.specs.declared.state.State.{State};
 ghost use Rattle.token_stack.specs.Entries.{entries_below, rules_of};
-ghost use Rattle.token_stack.specs.Open.{OpenPlace, open_at, tags_at};
+ghost use Rattle.token_stack.specs.Invariant.{Stands, row_at};
+ghost use Rattle.acl_walk.specs.Open.{OpenPlace, open_at, tags_at};
 ghost use Rattle.token_stack.specs.Stack.{TokenStack, entries_at, innermost, open_elements};
 ghost use Rattle.token_stack.specs.Stand.{entries_from, levels_after, row_after};
 ghost use Rattle.token_stack.specs.Standing.{StandsInDocument, TokensStandAt, fed};
@@ -59,7 +60,8 @@ pub fn rows_have_the_rules_that_select()
 
 /// New tokens stand before the first event of each list. Where tokens stand at a place of a list
 /// that spells a document, or nothing, the call that takes the event there makes them stand at the
-/// place behind it: `begin`, `attr`, `head_end`, `text` or `finish`, and none at the end.
+/// place behind it: `begin`, `attr`, `head_end`, `text` or `finish`, and none at the end. A pass over
+/// the rest of the innermost open element, in a list that spells a document, leaves them standing.
 pub fn tokens_follow_events()
     ensures new { (states : List State) (list : List Event) (depth : ℕ)
         → TokensStandAt states list 0 (record {
@@ -72,6 +74,10 @@ pub fn tokens_follow_events()
         → length names ≤ 256 → Spells names shown list → is_closed false states ≡ true
         → TokensStandAt states list place tokens → StandsAt list place event next
         → TokensStandAt states list next (fed states event tokens) }
+    ensures pass { (names : List (List ℕ)) (d : Doc) (list : List Event) (states : List State)
+        (old new : ℕ) (tokens : TokenStack) → length names ≤ 256 → Spells names (Some d) list
+        → TokensStandAt states list old tokens → PassesTo (tags_at list old) list old new
+        → TokensStandAt states list new tokens }
     ensures tags { (list : List Event) (place : ℕ) (event : Event) (next : ℕ)
         → StandsAt list place event next
         → tags_at list next ≡ tags_after (tags_at list place) event }
@@ -104,4 +110,15 @@ pub fn standing_tokens_have_the_rules_that_select()
         → rules_of (entries_at tokens.levels (length (element ∷ up)))
         ≡ row_of (λ n. option_map_or (λ r. select d r.path element.place)
         (slice_get rules n) false) }
+{}
+
+/// Tokens that stand at a place of a list that spells a document keep what is promised of them: at
+/// each open level the rules of their row select the element there, and each rule that selects it
+/// is in the row.
+pub fn standing_tokens_are_sure_and_complete()
+    ensures { (names : List (List ℕ)) (rules : List Rule) (d : Doc) (list : List Event)
+        (place : ℕ) (tokens : TokenStack) → are_distinct names ≡ true → length names ≤ 256
+        → length rules ≤ 256 → have_no_predicates rules ≡ true → Spells names (Some d) list
+        → TokensStandAt (automata_of names rules).states list place tokens
+        → Stands rules d (open_at list place) (row_at tokens) (row_at tokens) }
 {}

@@ -5,13 +5,16 @@ mod entry;
 mod laws;
 mod moves;
 mod rows;
+mod sign_laws;
 mod tokens;
 
 pub use entry::Entry;
 pub use laws::{
     levels_follow_tags, open_elements_stand_in_the_document, rows_have_the_rules_that_select,
-    standing_tokens_have_the_rules_that_select, tokens_follow_events,
+    standing_tokens_are_sure_and_complete, standing_tokens_have_the_rules_that_select,
+    tokens_follow_events,
 };
+pub use sign_laws::standing_tokens_give_signs;
 pub use tokens::Tokens;
 
 #[cfg(test)]

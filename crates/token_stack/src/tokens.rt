@@ -1,11 +1,14 @@
 //! A stack of entries, one level for each open element and one for the virtual root, in one piece
 //! of memory.
 
-ghost use Rattle.std.specs.Prelude.{◌≡◌, ◌≤◌, ◌<◌, ◌+◌, ◌*◌, ◌-◌, [], ◌∷◌, ◌++◌, IfOk, None, length, take, true};
+ghost use Rattle.std.specs.Prelude.{◌≡◌, ◌≤◌, ◌<◌, ◌+◌, ◌*◌, ◌-◌, [], ◌∷◌, ◌++◌, ℕ, List, IfOk, None, length, take, true};
+ghost use Rattle.acl_bits.specs.declared.piece.Piece.{Piece};
+ghost use Rattle.acl_walk.specs.declared.event.Event.TheVariants.{Begin, Attr, HeadEnd, Text, Finish};
 ghost use Rattle.rule_automata.specs.Run.{begun};
 ghost use Rattle.token_stack.specs.Entries.{entries_below, rules_of};
 ghost use Rattle.token_stack.specs.Stack.{are_levels, entries_at, entry_count, innermost, open_elements, start_of};
 ghost use Rattle.token_stack.specs.Stand.{entries_from};
+ghost use Rattle.token_stack.specs.Standing.{fed};
 
 use crate::entry::Entry;
 use crate::moves::{push_begun, push_moved};
@@ -72,7 +75,9 @@ impl Tokens {
     pub fn begin(&mut self, tables: &Tables, tag: u16)
         requires tables { length tables.now.states ≡ self.old.states }
         requires room { open_elements self.old < self.old.depth }
-        ensures { self.new ≡ record self.old {
+        ensures feeds { (below : List ℕ)
+            → self.new ≡ fed tables.now.states (Begin tag below) self.old }
+        ensures levels { self.new ≡ record self.old {
           levels = self.old.levels
               ++ (entries_below tables.now.states tag None (innermost self.old.levels) ∷ []);
         } }
@@ -87,7 +92,8 @@ impl Tokens {
     pub fn attr(&mut self, tables: &Tables, piece: &Piece)
         requires tables { length tables.now.states ≡ self.old.states }
         requires open { 0 < open_elements self.old }
-        ensures { self.new ≡ self.old }
+        ensures feeds { self.new ≡ fed tables.now.states (Attr piece.now) self.old }
+        ensures kept { self.new ≡ self.old }
     {}
 
     /// Takes the end of the attributes of the innermost open element. Without predicates it tells
@@ -95,14 +101,17 @@ impl Tokens {
     pub fn head_end(&mut self, tables: &Tables)
         requires tables { length tables.now.states ≡ self.old.states }
         requires open { 0 < open_elements self.old }
-        ensures { self.new ≡ self.old }
+        ensures feeds { self.new ≡ fed tables.now.states HeadEnd self.old }
+        ensures kept { self.new ≡ self.old }
     {}
 
     /// Takes a part of a text in the innermost open element. Without predicates it tells nothing.
     pub fn text(&mut self, tables: &Tables, piece: &[u8])
         requires tables { length tables.now.states ≡ self.old.states }
         requires open { 0 < open_elements self.old }
-        ensures { self.new ≡ self.old }
+        ensures feeds { (part : Piece) → part.bytes.items ≡ piece.now
+            → self.new ≡ fed tables.now.states (Text part) self.old }
+        ensures kept { self.new ≡ self.old }
     {}
 
     /// Settles what closing the innermost open element settles, and leaves it open. Without
@@ -128,7 +137,8 @@ impl Tokens {
     pub fn finish(&mut self, tables: &Tables)
         requires tables { length tables.now.states ≡ self.old.states }
         requires open { 0 < open_elements self.old }
-        ensures { self.new ≡ record self.old {
+        ensures feeds { (tag : ℕ) → self.new ≡ fed tables.now.states (Finish tag) self.old }
+        ensures levels { self.new ≡ record self.old {
           levels = take (length self.old.levels - 1) self.old.levels;
         } }
     {
@@ -137,8 +147,8 @@ impl Tokens {
         self.ends.truncate(levels);
     }
 
-    /// The rules that surely select the open element of a level, from 1 at the root. A level that
-    /// isn't open has none.
+    /// The rules that surely select at a level: the root's is 1, and so on inward. There are none
+    /// past the innermost.
     pub fn sure(&self, level: u16) -> Row
         ensures { result ≡ rules_of (entries_at self.now.levels level) }
     {

@@ -73,8 +73,8 @@ invariant_of-self c =
     (kept-push own.states own.depth own.ends.items own.entries.items _ _ new c.self.invariant room
     (moved-rising c.states.result.now c.args.tag own.states own.depth own.ends.items own.entries.items _ _ k c.self.invariant long same closed))
 
-pub returns : goal.returns
-returns c =
+pub returns-clause-levels : goal.returns-clause-levels
+returns-clause-levels c =
     let own = c.self.inside in
     let k : ℕ = c.len.result - 1 in
     let long : length own.ends.items ≡ suc k = omega (arith, c.len.ensures, c.self.invariant.some) in
@@ -92,3 +92,6 @@ returns c =
     ∙ ap (entries_below c.args.tables.now.states c.args.tag None) (innermost-cut own.states own.depth own.ends.items own.entries.items _ _ k c.self.invariant long) in
     ap (λ l. record { states = own.states; depth = own.depth; levels = l }) (levels ∙ ap (λ es. levels_cut 0 own.ends.items own.entries.items ++ (es ∷ [])) below)
     ∙ ap (λ (t : TokenStack). record t { levels = t.levels ++ (entries_below c.args.tables.now.states c.args.tag None (innermost t.levels) ∷ []) }) c.self.view_is
+
+pub returns-clause-feeds : goal.returns-clause-feeds
+returns-clause-feeds c below = returns-clause-levels c

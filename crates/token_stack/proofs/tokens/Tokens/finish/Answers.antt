@@ -17,8 +17,8 @@ invariant_of-self c =
     (sym c.truncate-2.ensures.items) (sym (c.truncate.ensures.items ∙ ap (λ m. take m own.entries.items) from)) (sym c.truncate-2.ensures.capacity) (sym c.truncate.ensures.capacity)
     (kept-finish own.states own.depth own.ends.items own.entries.items _ _ n c.self.invariant inside some)
 
-pub returns : goal.returns
-returns c =
+pub returns-clause-levels : goal.returns-clause-levels
+returns-clause-levels c =
     let own = c.self.inside in
     let n : ℕ = c.len-levels.result - 1 in
     let levels = levels_cut 0 own.ends.items own.entries.items in
@@ -33,3 +33,6 @@ returns c =
     ∙ finish-cut own.states own.depth own.ends.items own.entries.items _ _ n c.self.invariant inside some
     ∙ ap (λ m. take m levels) last)
     ∙ ap (λ (t : TokenStack). record t { levels = take (length t.levels - 1) t.levels }) c.self.view_is
+
+pub returns-clause-feeds : goal.returns-clause-feeds
+returns-clause-feeds c tag = returns-clause-levels c

@@ -1,0 +1,81 @@
+-- A small document with and without an attribute, the events that spell it, and predicates at its
+-- root, whose closes are worked out by hand. This project's own.
+use Rattle.std.specs.Prelude.{ℕ, true, Some, None, List, [], ◌∷◌, ◌++◌, codes}
+use Rattle.acl_model.specs.declared.document.Doc.{Doc}
+use Rattle.acl_model.specs.declared.document.Element.{Element}
+use Rattle.acl_model.specs.declared.document.Item.TheVariants as item
+use Rattle.acl_model.specs.declared.path.Axis.TheVariants as axis
+use Rattle.acl_model.specs.declared.path.Op.TheVariants.{Eq}
+use Rattle.acl_model.specs.declared.path.Operand.TheVariants as operand
+use Rattle.acl_model.specs.declared.path.Pred.{Pred}
+use Rattle.acl_model.specs.declared.path.PredStep.{PredStep}
+use Rattle.acl_model.specs.declared.path.Test.{Test}
+use Rattle.acl_model.specs.declared.path.Test.TheVariants as test
+use Rattle.acl_walk.specs.Pieces.{piece_of}
+use Rattle.acl_walk.specs.declared.event.Event.{Event}
+use Rattle.acl_walk.specs.declared.event.Event.TheVariants.{Begin, Attr, HeadEnd, Text, Finish, End}
+
+-- the names r, p and x
+abbrev pub small_names : List (List ℕ)
+small_names = codes "r" ∷ codes "p" ∷ codes "x" ∷ []
+
+-- (p, )p
+abbrev pub small_p : Element
+small_p = record { name = codes "p"; attributes = []; items = [] }
+
+-- (x, -z, )x
+abbrev pub small_x : Element
+small_x = record { name = codes "x"; attributes = []; items = item.Text (codes "z") ∷ [] }
+
+-- (r, (p, )p, (x, -z, )x, )r, with raw attributes of the root before all
+abbrev pub small_with : List (List ℕ) → Doc
+small_with attributes = record {
+  root = record { name = codes "r"; attributes = attributes; items = item.Child small_p ∷ item.Child small_x ∷ [] };
+}
+
+-- without an attribute
+abbrev pub small : Doc
+small = small_with []
+
+-- with the attribute AId CDATA f1
+abbrev pub small_with_id : Doc
+small_with_id = small_with (codes "Id CDATA f1" ∷ [])
+
+-- the events of the document, where these are those of the root's attributes
+abbrev pub small_events_with : List Event → List Event
+small_events_with heads =
+    Begin 0 (0 ∷ 1 ∷ 2 ∷ []) ∷ (heads ++ (HeadEnd
+    ∷ Begin 1 [] ∷ HeadEnd ∷ Finish 1 ∷ Begin 2 [] ∷ HeadEnd ∷ Text (piece_of (codes "z") true) ∷ Finish 2
+    ∷ Finish 0 ∷ End ∷ []))
+
+-- those without an attribute
+abbrev pub small_events : List Event
+small_events = small_events_with []
+
+-- those with it
+abbrev pub small_events_with_id : List Event
+small_events_with_id = small_events_with (Attr (piece_of (codes "Id CDATA f1") true) ∷ [])
+
+-- a step to the children that pass this test
+abbrev pub to_child : Test → PredStep
+to_child test = record { axis = axis.Child; test = test }
+
+-- [p]
+abbrev pub has_p : Pred
+has_p = record { way = to_child (test.Named (codes "p")) ∷ []; attribute = None; cmp = None }
+
+-- [*]
+abbrev pub has_child : Pred
+has_child = record { way = to_child test.Any ∷ []; attribute = None; cmp = None }
+
+-- [x = ..], with this text
+abbrev pub x_is : List ℕ → Pred
+x_is text = record {
+  way = to_child (test.Named (codes "x")) ∷ [];
+  attribute = None;
+  cmp = Some (record { op = Eq; operand = operand.Text text });
+}
+
+-- [@Id]
+abbrev pub has_id : Pred
+has_id = record { way = []; attribute = Some (codes "Id"); cmp = None }

@@ -1,0 +1,50 @@
+//! Where predicates are met in a list of events, and where they close. These functions do nothing:
+//! their contracts are the laws.
+
+ghost use Rattle.std.specs.Prelude.{◌≡◌, ℕ, ◌<◌, ◌≤◌, true, Some, is_some, List, [], length, codes};
+ghost use Rattle.std.specs.List.{list_any};
+ghost use Rattle.acl_model.specs.Places.{at};
+ghost use Rattle.acl_model.specs.Predicates.{holds};
+ghost use Rattle.acl_model.specs.declared.document.Doc.{Doc};
+ghost use Rattle.acl_model.specs.declared.document.Element.{Element};
+ghost use Rattle.acl_model.specs.declared.path.Pred.{Pred};
+ghost use Rattle.acl_walk.specs.Begun.{begins_at, finishes_at};
+ghost use Rattle.acl_walk.specs.CloseExamples.{small_names, has_p, has_child, x_is, has_id};
+ghost use Rattle.acl_walk.specs.CloseExamples.{small, small_events};
+ghost use Rattle.acl_walk.specs.CloseExamples.{small_with_id, small_events_with_id};
+ghost use Rattle.acl_walk.specs.Closes.{counted, is_met_at, close};
+ghost use Rattle.acl_walk.specs.Spelling.{Spells};
+ghost use Rattle.acl_walk.specs.TreeEvents.{document_events};
+ghost use Rattle.acl_walk.specs.declared.event.Event.{Event};
+
+/// A predicate holds at an element exactly where some event meets it. It closes with one event of
+/// the list, between the Begin of its bearer and the Finish.
+pub fn predicates_close_where_they_are_met()
+    ensures met { (names : List (List ℕ)) (d : Doc) (list : List Event) (bearer : List ℕ)
+        → (e : Element) (pred : Pred) → length names ≤ 256
+        → Spells names (Some d) list → at d bearer ≡ Some e
+        → list_any (is_met_at d list bearer pred) (counted (length list)) ≡ holds pred e }
+    ensures closes { (names : List (List ℕ)) (d : Doc) (list : List Event) (bearer : List ℕ)
+        → (e : Element) (pred : Pred) → length names ≤ 256
+        → Spells names (Some d) list → at d bearer ≡ Some e
+        → is_some (close d list bearer pred) ≡ true }
+    ensures within { (d : Doc) (list : List Event) (bearer : List ℕ) (pred : Pred) (i : ℕ)
+        → close d list bearer pred ≡ Some i → i < length list }
+    ensures inside { (names : List (List ℕ)) (d : Doc) (list : List Event) (bearer : List ℕ)
+        → (pred : Pred) (begin i finish : ℕ)
+        → length names ≤ 256 → Spells names (Some d) list → close d list bearer pred ≡ Some i
+        → begins_at list bearer begin ≡ true → finishes_at list bearer finish ≡ true
+        → (begin ≤ i) × (i ≤ finish) }
+{}
+
+/// The closes of `[p]`, `[*]`, `[x = 'z']`, `[x = 'y']` and `[@Id]` at the root of a small document,
+/// as they are worked out by hand.
+pub fn closes_of_small_documents()
+    ensures events { document_events small_names small ≡ small_events }
+    ensures events_with_id { document_events small_names small_with_id ≡ small_events_with_id }
+    ensures at_begin { close small small_events [] has_p ≡ Some 2 }
+    ensures at_first { close small small_events [] has_child ≡ Some 2 }
+    ensures at_finish { close small small_events [] (x_is (codes "z")) ≡ Some 8 }
+    ensures unmet { close small small_events [] (x_is (codes "y")) ≡ Some 9 }
+    ensures at_attribute { close small_with_id small_events_with_id [] has_id ≡ Some 1 }
+{}

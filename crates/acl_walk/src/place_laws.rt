@@ -1,0 +1,28 @@
+//! Where the elements that are open at a place of a list stand, and where a pass leads. These
+//! functions do nothing: their contracts are the laws.
+
+ghost use Rattle.std.specs.Prelude.{◌≡◌, ℕ, ◌≤◌, Some, List, ◌∷◌, length};
+ghost use Rattle.acl_model.specs.Places.{prefixes};
+ghost use Rattle.acl_model.specs.declared.document.Doc.{Doc};
+ghost use Rattle.acl_walk.specs.Open.{OpenPlace, open_at, tags_of, places_of};
+ghost use Rattle.acl_walk.specs.Passes.{IsPass};
+ghost use Rattle.acl_walk.specs.Spelling.{Spells};
+ghost use Rattle.acl_walk.specs.Standing.{PassesTo};
+ghost use Rattle.acl_walk.specs.declared.event.Event.{Event};
+
+/// The elements that are open at a place of a list stand in each other: their places are the
+/// prefixes of the innermost one's. This is so of each list, whether it spells a document or not.
+pub fn open_places_are_prefixes()
+    ensures { (list : List Event) (place : ℕ) (element : OpenPlace) (up : List OpenPlace)
+        → open_at list place ≡ element ∷ up
+        → places_of (element ∷ up) ≡ prefixes element.place }
+{}
+
+/// In a list that spells a document a pass leads to the Finish of the innermost open element, and
+/// all that it leaves out is inside that element.
+pub fn passes_lead_to_the_finish()
+    ensures { (names : List (List ℕ)) (d : Doc) (list : List Event) (old new : ℕ)
+        (element : OpenPlace) (up : List OpenPlace)
+        → length names ≤ 256 → Spells names (Some d) list → open_at list old ≡ element ∷ up
+        → PassesTo (tags_of (element ∷ up)) list old new → IsPass list old new element up }
+{}
