@@ -7,7 +7,7 @@ use Rattle.acl_outcome.specs.Ends.{End, done, no_memory, fault, refused, is_faul
 use Rattle.acl_model.specs.declared.document.Doc.{Doc}
 use Rattle.licence.specs.declared.keys.Keys.{Keys}
 use Rattle.merkle_chunks.specs.File.{file, file_root}
-use Rattle.acl_run.specs.Command.{encode}
+use Rattle.acl_words.specs.Command.{encode}
 use Rattle.acl_run.specs.Encode.{root_line, encode_text, encode_note}
 use Rattle.acl_run.specs.Readers.{keys_of, document_of, with_file, encodable_of}
 use Rattle.acl_run.specs.Reading.{is_refusal, ends_reading, ends_asking}

@@ -20,7 +20,7 @@ use Rattle.fragment_open.specs.Told.{Told}
 use Rattle.fragment_open.proofs.ClimbLemmas.{Told-none, Told-weaker}
 use Rattle.file_reading.specs.FileEnds.{FileEnds, IsShown, OfHeldDocument}
 use Rattle.acl_run.specs.declared.preview.Wanted.{Wanted}
-use Rattle.acl_run.specs.Command.{Command, Shown, preview, encode, seal, view, sample}
+use Rattle.acl_words.specs.Command.{Command, Shown, preview, encode, seal, view, sample}
 use Rattle.acl_run.specs.Headline.{HasStoreCause, IsRefusedAsShown, OfEachDueText, OfHeldText, OfKeys, OfLicence, OfOpened, OfWanted, is_store_end}
 use Rattle.acl_run.specs.Preview.{wanted_by, wanted_text}
 use Rattle.acl_run.specs.Readers.{keys_of, sealed_licence_of}

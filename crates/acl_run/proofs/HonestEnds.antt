@@ -11,7 +11,7 @@ use Rattle.file_reading.specs.FileEnds.{OfHeldDocument}
 use Rattle.acl_outcome.specs.declared.outcome.Outcome.{Outcome}
 use Rattle.acl_outcome.specs.Ends.{keys, input, store, out, note, End, done, no_memory, usage, fault, stopped, refused, end_of}
 use Rattle.acl_run.specs.declared.preview.Wanted.{Wanted}
-use Rattle.acl_run.specs.Command.{Shown, view}
+use Rattle.acl_words.specs.Command.{Shown, view}
 use Rattle.acl_run.specs.Headline.{IsOfNoBytes, OfHeldText, OfKeys, OfLicence, OfOpened, OfWanted}
 use Rattle.acl_run.specs.Opening.{IsHonestEnd}
 use Rattle.acl_run.specs.Preview.{wanted_by}

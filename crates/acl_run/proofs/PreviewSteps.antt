@@ -9,7 +9,7 @@ use Rattle.licence.specs.Forms.{◌>>=◌}
 use Rattle.acl_outcome.specs.declared.outcome.Outcome.{Outcome}
 use Rattle.acl_outcome.specs.Ends.{keys, input, out, a_length, a_document, a_licence, some_states, a_query}
 use Rattle.acl_outcome.specs.Ends.{End, done, no_memory, fault, refused, is_fault_of, end_of}
-use Rattle.acl_run.specs.Command.{Shown, the_view, an_answer, an_explanation, preview}
+use Rattle.acl_words.specs.Command.{Shown, the_view, an_answer, an_explanation, preview}
 use Rattle.acl_run.specs.Preview.{wanted_by, wanted_text, preview_text}
 use Rattle.acl_run.specs.Readers.{licence_of, query_of, document_of}
 use Rattle.acl_run.specs.Reading.{is_refusal, ends_reading}

@@ -3,7 +3,7 @@ use Rattle.std.proofs.Common.{ℕ, IsTrue, refl}
 use Rattle.std.specs.Bool.{OnTrue}
 use Rattle.acl_outcome.specs.declared.outcome.Outcome.TheVariants.{Done, NoMemory, NoteFault, SinkFault}
 use Rattle.acl_outcome.specs.Ends.{out, note, done, fault}
-use Rattle.acl_run.specs.Command.{sample}
+use Rattle.acl_words.specs.Command.{sample}
 use Rattle.acl_run.specs.Work.{may_end, precedes_output, precedes_note}
 use Rattle.acl_run.proofs.Facts.{on_true}
 use Rattle.acl_run.proofs.Objects.{sink-same, sink-unblamed}

@@ -13,7 +13,7 @@ use Rattle.licence.specs.Sealed.{sealed_text_of}
 use Rattle.licence.specs.declared.fault.LicenceFault.{LicenceFault}
 use Rattle.licence.specs.declared.keys.Keys.{Keys}
 use Rattle.licence.specs.declared.terms.Licence.{Licence}
-use Rattle.acl_run.specs.Command.{seal}
+use Rattle.acl_words.specs.Command.{seal}
 use Rattle.acl_run.specs.Outcomes.{outcome_of_licence_fault}
 use Rattle.acl_run.specs.Readers.{licence_of, keys_of, sealed_of, most_key_bytes}
 use Rattle.acl_run.specs.Reading.{is_refusal, ends_reading}

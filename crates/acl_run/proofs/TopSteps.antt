@@ -5,7 +5,7 @@ use Rattle.acl_outcome.specs.declared.outcome.Outcome.{Outcome}
 use Rattle.acl_outcome.specs.Ends.{keys, input, store, out, note}
 use Rattle.acl_outcome.specs.Ends.{End, done, no_memory, usage, fault, stopped, refused, is_fault_of, end_of}
 use Rattle.acl_outcome.specs.declared.outcome.Outcome.TheVariants.{Usage}
-use Rattle.acl_run.specs.Command.{Command, Shown, preview, encode, seal, view, sample}
+use Rattle.acl_words.specs.Command.{Command, Shown, preview, encode, seal, view, sample}
 use Rattle.acl_run.specs.Steps.{may_end_from}
 use Rattle.acl_run.specs.Texts.{WritesNote}
 use Rattle.acl_outside.specs.Outside.{StoreRead}

@@ -7,7 +7,7 @@ use Rattle.licence.specs.Forms.{◌>>=◌}
 use Rattle.acl_outcome.specs.declared.outcome.Outcome.{Outcome}
 use Rattle.acl_outcome.specs.Ends.{keys, input, store, End, done, no_memory, usage, fault, stopped, refused, is_same, end_of}
 use Rattle.acl_run.specs.declared.preview.Wanted.{Wanted}
-use Rattle.acl_run.specs.Command.{Shown, the_view, an_answer, an_explanation, view}
+use Rattle.acl_words.specs.Command.{Shown, the_view, an_answer, an_explanation, view}
 use Rattle.acl_run.specs.Opening.{ends_opening}
 use Rattle.acl_run.specs.Preview.{wanted_by}
 use Rattle.acl_run.specs.Readers.{keys_of, sealed_licence_of, query_of}

@@ -9,7 +9,7 @@ use Rattle.licence.specs.Forms.{◌>>=◌}
 use Rattle.acl_outcome.specs.declared.outcome.Outcome.{Outcome}
 use Rattle.acl_outcome.specs.Ends.{keys, input, store, out, a_length, a_seal, a_licence, some_states, a_query, some_keys, a_file}
 use Rattle.acl_outcome.specs.Ends.{End, done, no_memory, fault, refused, is_fault_of, end_of}
-use Rattle.acl_run.specs.Command.{Shown, the_view, an_answer, an_explanation, view}
+use Rattle.acl_words.specs.Command.{Shown, the_view, an_answer, an_explanation, view}
 use Rattle.acl_run.specs.Headline.{is_store_end}
 use Rattle.acl_run.specs.Opening.{ends_opening}
 use Rattle.acl_run.specs.Reading.{is_refusal, ends_reading}

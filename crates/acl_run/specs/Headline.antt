@@ -14,7 +14,7 @@ use Rattle.licence.specs.declared.keys.Keys.{Keys}
 use Rattle.licence.specs.declared.terms.Licence.{Licence}
 use Rattle.merkle_chunks.specs.File.{HasRoot, file_root}
 use Rattle.acl_run.specs.declared.preview.Wanted.{Wanted}
-use Rattle.acl_run.specs.Command.{Command, Shown, preview, encode, seal, view, sample}
+use Rattle.acl_words.specs.Command.{Command, Shown, preview, encode, seal, view, sample}
 use Rattle.acl_run.specs.Preview.{wanted_by, wanted_text}
 use Rattle.acl_run.specs.Outcomes.{outcome_of_read_fault}
 use Rattle.acl_run.specs.Readers.{keys_of, sealed_licence_of}

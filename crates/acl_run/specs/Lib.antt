@@ -1,17 +1,13 @@
-pub mod Command
 pub mod Encode
 pub mod Objects
-pub mod Options
 pub mod Outcomes
 pub mod Preview
 pub mod Readers
 pub mod Reading
 pub mod Opening
 pub mod Headline
-pub mod Request
 pub mod Seal
 pub mod Steps
 pub mod Texts
-pub mod Words
 pub mod Writing
 pub mod Work

@@ -9,7 +9,7 @@ use Rattle.licence.specs.declared.terms.Licence.{Licence}
 use Rattle.acl_outcome.specs.declared.outcome.Outcome.{Outcome}
 use Rattle.acl_run.specs.declared.preview.Wanted.{Wanted}
 use Rattle.acl_run.specs.declared.preview.Wanted.TheVariants.{View, Answer, Explanation}
-use Rattle.acl_run.specs.Command.{Shown, the_view, an_answer, an_explanation}
+use Rattle.acl_words.specs.Command.{Shown, the_view, an_answer, an_explanation}
 use Rattle.acl_run.specs.Readers.{licence_of, query_of, document_of}
 
 -- What is wanted by this user: a query is read as a path, and else there is nothing to be read.

@@ -6,7 +6,7 @@ use Rattle.acl_outcome.specs.Ends.{keys, input, store, out, note, End, done, no_
 use Rattle.acl_model.specs.Text.{text}
 use Rattle.sample_maker.specs.Hospital.{hospital}
 use Rattle.sample_maker.specs.Sample.{sample_line}
-use Rattle.acl_run.specs.Command.{Command, preview, encode, seal, view, sample}
+use Rattle.acl_words.specs.Command.{Command, preview, encode, seal, view, sample}
 use Rattle.acl_run.specs.Encode.{encode_text, encode_note}
 use Rattle.acl_run.specs.Preview.{preview_text}
 use Rattle.acl_run.specs.Seal.{seal_text}

@@ -7,7 +7,7 @@ use Rattle.esis_lines.specs.Answers.{most_document_bytes}
 use Rattle.licence.specs.Forms.{◌>>=◌}
 use Rattle.acl_outcome.specs.declared.outcome.Outcome.{Outcome}
 use Rattle.acl_outcome.specs.Ends.{Object, keys, input, store, out, note, End, end_of}
-use Rattle.acl_run.specs.Command.{Command, Shown, the_view, an_answer, an_explanation, preview, encode, seal, view, sample}
+use Rattle.acl_words.specs.Command.{Command, Shown, the_view, an_answer, an_explanation, preview, encode, seal, view, sample}
 use Rattle.acl_run.specs.Readers.{licence_of, keys_of, document_of, encodable_of, query_of, sealed_licence_of, most_key_bytes}
 use Rattle.acl_run.specs.Steps.{Step, reads, asks, opens, makes, writes, are_rules, is_query, is_document, has_file, are_keys, is_body, is_licence, Finding, good, unknown, finding_of}
 use Rattle.acl_run.specs.Steps.{is_reading_of, is_opening_of, is_writing_to, may_end_in, may_end_from, is_before, is_behind}

@@ -8,7 +8,7 @@ ghost use Rattle.acl_outside.specs.Outside.{AreAllSettled};
 ghost use Rattle.acl_outside.specs.Writing.{Writes};
 ghost use Rattle.esis_lines.specs.Answers.{TakesUpTo};
 ghost use Rattle.acl_outcome.specs.Ends.{Object, end_of, is_fault_of};
-ghost use Rattle.acl_run.specs.Command.{Command};
+ghost use Rattle.acl_words.specs.Command.{Command};
 ghost use Rattle.acl_run.specs.Encode.{root_line};
 ghost use Rattle.acl_run.specs.Objects.{LeavesSource, LeavesSink};
 ghost use Rattle.acl_run.specs.Steps.{Follows};

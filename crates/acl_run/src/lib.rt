@@ -2,15 +2,12 @@
 #![tactic(auto)]
 
 mod encode;
-mod options;
 mod preview;
 mod readers;
-mod request;
 mod sample;
 mod seal;
 mod top;
 mod view;
-mod words;
 mod writing;
 
 pub use acl_outcome::{Outcome, outcome_text, status};

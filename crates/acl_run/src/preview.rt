@@ -15,11 +15,11 @@ ghost use Rattle.licence.specs.BodyText.{most_rules};
 ghost use Rattle.tree_meaning.specs.Shows.{WritesView};
 ghost use Rattle.tree_meaning.specs.Told.{explanations_in};
 ghost use Rattle.acl_outcome.specs.Ends.{Object, end_of, is_fault_of};
-ghost use Rattle.acl_run.specs.Command.{Command};
+ghost use Rattle.acl_words.specs.Command.{Command};
 ghost use Rattle.acl_run.specs.Objects.{LeavesSource, LeavesSink};
 ghost use Rattle.acl_run.specs.Preview.{wanted_by, wanted_text};
 ghost use Rattle.acl_run.specs.Reading.{AnswersAlone};
-ghost use Rattle.acl_run.specs.Request.{meant_shown};
+ghost use Rattle.acl_words.specs.Request.{meant_shown};
 ghost use Rattle.acl_run.specs.Steps.{Follows};
 ghost use Rattle.acl_run.specs.Texts.{WritesText, WhereWhole, due_out};
 ghost use Rattle.acl_run.specs.Work.{steps_of, ends_at_query, may_end, keys_limit, input_limit};
@@ -27,10 +27,10 @@ ghost use Rattle.acl_run.specs.Work.{is_behind_keys, is_behind_input, precedes_i
 ghost use Rattle.acl_run.specs.Writing.{EndsWriting};
 
 use crate::readers::{read_document, read_query, read_rules};
-use crate::request::Shown;
 use acl_model::{Bytes, Doc, Path, Rule, Sign};
 use acl_outcome::Outcome;
 use acl_outside::{Failed, Sink, Source, finish};
+use acl_words::Shown;
 use licence::Licence;
 use std::alloc::Global;
 use tree_meaning::{Told, WriteViewFault, explain_tree, view_tree, write_explanation, write_view};

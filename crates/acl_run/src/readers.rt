@@ -190,7 +190,8 @@ pub fn make_file(alloc: Global, doc: &Doc, key: [u8; 16]) -> Result<Encoded, Out
     ensures has_file { IfOk result (λ _. with_file doc.now ≡ Ok doc.now) }
     ensures refused { IfErr result
         (λ outcome. OrNoMemory (end_of outcome) (with_file doc.now ≡ Err outcome)) }
-    ensures ends { IfErr result (λ outcome. IsTrue (ends_asking Question.has_file (end_of outcome))) }
+    ensures ends { IfErr result (λ outcome.
+        IsTrue (ends_asking Question.has_file (end_of outcome))) }
 {
     match encode_file(alloc, doc, key) {
         Ok(encoded) => Ok(encoded),
@@ -267,12 +268,14 @@ pub fn read_store<S: Store>(
     key: [u8; 16],
 ) -> Result<Doc, Outcome>
     ensures told { Told (S.served store.old) (S.served store.new) (StoreEnds result root key) }
-    ensures exact { Told (S.served store.old) (S.served store.new) (IsStoreRefused result root key) }
+    ensures exact { Told (S.served store.old) (S.served store.new)
+        (IsStoreRefused result root key) }
     ensures held { OfHeldDocument (S.holds store.old) root key (λ d. MatchResult result
         (λ doc. doc ≡ d)
         (λ outcome. IsHonestEnd (end_of outcome))) }
     ensures ends { IfErr result (λ outcome. IsTrue (ends_opening (end_of outcome))) }
-    ensures store { LeavesStore S.holds S.served S.faults (is_fault_in Object.store result) store.old store.new }
+    ensures store { LeavesStore S.holds S.served S.faults
+        (is_fault_in Object.store result) store.old store.new }
 {
     match read_file(alloc, store, root, key) {
         Ok(doc) => Ok(doc),
@@ -293,7 +296,8 @@ fn are_few_states(path: &Path) -> bool
 #[tactic(auto, unfolding(crate::specs::Readers::query_of))]
 pub fn read_query(alloc: Global, query: &[u8], user: &[u8]) -> Result<Path, Outcome>
     ensures answer { AnswersAlone (query_of user.now query.now) result }
-    ensures ends { IfErr result (λ outcome. IsTrue (ends_asking Question.is_query (end_of outcome))) }
+    ensures ends { IfErr result (λ outcome.
+        IsTrue (ends_asking Question.is_query (end_of outcome))) }
 {
     match read_path(alloc, query, user) {
         Ok(path) if are_few_states(&path) => Ok(path),

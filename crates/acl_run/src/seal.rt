@@ -7,7 +7,7 @@ ghost use Rattle.std.specs.Io.KnownBytes.{IsAtEnd};
 ghost use Rattle.acl_outside.specs.Outside.{AreAllSettled};
 ghost use Rattle.esis_lines.specs.Answers.{TakesUpTo};
 ghost use Rattle.acl_outcome.specs.Ends.{Object, end_of, is_fault_of};
-ghost use Rattle.acl_run.specs.Command.{Command};
+ghost use Rattle.acl_words.specs.Command.{Command};
 ghost use Rattle.acl_run.specs.Objects.{LeavesSource, LeavesSink};
 ghost use Rattle.acl_run.specs.Steps.{Follows};
 ghost use Rattle.acl_run.specs.Texts.{WritesText, WhereWhole, due_out};

@@ -14,7 +14,7 @@ ghost use Rattle.acl_run.specs.Headline.{OfEachDueText, OfHeldText, OfOpened};
 ghost use Rattle.acl_run.specs.Objects.{LeavesSource, LeavesSink, LeavesStore};
 ghost use Rattle.acl_run.specs.Texts.{WritesText, WritesNote, WhereWhole, WhereDone};
 ghost use Rattle.acl_run.specs.Texts.{due_out, due_note};
-ghost use Rattle.acl_run.specs.Words.{words_of};
+ghost use Rattle.acl_words.specs.Words.{words_of};
 ghost use Rattle.acl_run.specs.Steps.{Follows};
 ghost use Rattle.acl_run.specs.Work.{steps_of, may_end, uses, keys_for, input_for};
 ghost use Rattle.acl_run.specs.Work.{is_behind_keys, is_behind_input, precedes_input};
@@ -22,13 +22,12 @@ ghost use Rattle.acl_run.specs.Work.{keys_limit, input_limit, precedes_output, p
 
 use crate::encode::encode;
 use crate::preview::preview;
-use crate::request::Request;
 use crate::sample::sample;
 use crate::seal::seal;
 use crate::view::view;
-use crate::words::read_words;
 use acl_outcome::Outcome;
 use acl_outside::{Sink, Source, Store};
+use acl_words::{Request, read_words};
 use std::alloc::Global;
 
 /// Does what the words ask for. They are those of the command line, without the program's own name.

@@ -9,10 +9,10 @@ ghost use Rattle.esis_lines.specs.Answers.{TakesUpTo};
 ghost use Rattle.fragment_open.specs.Served.{IsRegular};
 ghost use Rattle.fragment_open.specs.Told.{Told};
 ghost use Rattle.acl_outcome.specs.Ends.{Object, end_of, is_fault_of};
-ghost use Rattle.acl_run.specs.Command.{Command};
+ghost use Rattle.acl_words.specs.Command.{Command};
 ghost use Rattle.acl_run.specs.Headline.{HasStoreCause, IsOfNoBytes, IsRefusedAsShown, OfEachDueText, OfHeldText, OfOpened};
 ghost use Rattle.acl_run.specs.Objects.{LeavesSource, LeavesSink, LeavesStore};
-ghost use Rattle.acl_run.specs.Request.{meant_shown};
+ghost use Rattle.acl_words.specs.Request.{meant_shown};
 ghost use Rattle.acl_run.specs.Steps.{Follows};
 ghost use Rattle.acl_run.specs.Texts.{WhereWhole};
 ghost use Rattle.acl_run.specs.Work.{steps_of, may_end, keys_limit, input_limit};
@@ -20,9 +20,9 @@ ghost use Rattle.acl_run.specs.Work.{is_behind_keys, is_behind_input, precedes_i
 
 use crate::preview::{read_wanted, show};
 use crate::readers::{read_keys, read_sealed_licence, read_store};
-use crate::request::Shown;
 use acl_outcome::Outcome;
 use acl_outside::{Sink, Source, Store};
+use acl_words::Shown;
 use std::alloc::Global;
 
 /// Reads the keys, then the licence, then the query, then the document of the store's file, and writes what is to be shown.

@@ -217,3 +217,52 @@ fn each_changed_byte_and_each_cut_is_refused(rt: HostRuntime) {
         assert_no_file(&rt, licence.as_slice(), cut.as_slice(), place);
     }
 }
+
+/// The root that stands in a note of `encode`.
+fn noted_root<R: Abort + AllocGlobal>(rt: &R, note: &[u8]) -> String {
+    let digits = note.get(5..69).expect(rt, "a line of a root");
+    let digits = Vec::from_slice(rt.alloc(), digits).expect(rt, "memory");
+    String::from_utf8(digits).expect(rt, "digits")
+}
+
+/// The file with its fragments 1 and 2 exchanged: the bytes 320 to 575, and 576 to 831.
+fn exchanged<R: Abort + AllocGlobal>(rt: &R, file: &[u8]) -> Vec<u8> {
+    let mut bytes = Vec::new(rt.alloc());
+    for place in 0..file.len() {
+        let from = match place {
+            320..=575 => place + 256,
+            576..=831 => place - 256,
+            _ => place,
+        };
+        let byte = file.get(from).expect(rt, "three fragments");
+        bytes.push(*byte).expect(rt, "memory");
+    }
+    bytes
+}
+
+#[test]
+fn exchanged_fragments_are_refused_at_the_first(rt: HostRuntime) {
+    let sample = run_failing(&rt, "sample;40", "", "", 65_536, [NEVER; 5]);
+    let keys = lines(&rt, KEYS);
+    let objects = Objects {
+        keys: keys.as_slice(),
+        input: sample.out.written(),
+        store: &[],
+        room: 65_536,
+        fails: [NEVER; 5],
+    };
+    let encoded = run_with(&rt, words(&rt, "encode;k").as_slice(), objects);
+    let root = noted_root(&rt, encoded.note.written());
+    let licence = sealed(&rt, root.as_str(), "+ R /Hospital;");
+    let store = exchanged(&rt, encoded.out.written());
+    let ended = run_over_store(
+        &rt,
+        "view;k;s",
+        KEYS,
+        licence.as_slice(),
+        store.as_slice(),
+        NEVER,
+    );
+    assert!(rt; matches!(ended.outcome, Outcome::BadFragment { index: 1, .. }));
+    assert_eq!(rt; ended.out.written().len(), 0);
+}

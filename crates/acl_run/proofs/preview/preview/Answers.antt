@@ -2,7 +2,7 @@ use Rattle.std.proofs.Common.{◌≡◌, ℕ, Ok, Err, List, subst}
 use Rattle.acl_outcome.specs.Ends.{end_of}
 use Rattle.acl_model.specs.declared.rule.Rule.{Rule}
 use Rattle.acl_run.specs.Preview.{wanted_by, wanted_text}
-use Rattle.acl_run.specs.Request.{meant_shown}
+use Rattle.acl_words.specs.Request.{meant_shown}
 use Rattle.acl_run.specs.Steps.{OrNoMemory}
 use Rattle.acl_run.specs.Texts.{WritesText}
 use Rattle.acl_run.proofs.Facts.{whatever_told}

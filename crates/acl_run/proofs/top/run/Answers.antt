@@ -1,8 +1,8 @@
 use Rattle.std.proofs.Common.{rules, map, string_bytes}
 use Rattle.acl_outcome.specs.Ends.{end_of}
-use Rattle.acl_run.specs.Command.{Command}
-use Rattle.acl_run.specs.Request.{meant_shown}
-use Rattle.acl_run.specs.Words.{words_of}
+use Rattle.acl_words.specs.Command.{Command}
+use Rattle.acl_words.specs.Request.{meant_shown}
+use Rattle.acl_words.specs.Words.{words_of}
 use Rattle.acl_run.proofs.Facts.{whatever_told}
 use Rattle.acl_run.proofs.TopSteps.{usage_of_taken, where_taken, where_any, where_unread, where_untold, no_note}
 use Rattle.acl_run.proofs.top.run.Goals as goal

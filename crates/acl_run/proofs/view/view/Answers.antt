@@ -6,11 +6,11 @@ use Rattle.acl_outcome.specs.Ends.{end_of}
 use Rattle.fragment_open.specs.Served.{IsRegular}
 use Rattle.fragment_open.proofs.ClimbLemmas.{Told-weaker}
 use Rattle.file_reading.specs.FileEnds.{FileEnds}
-use Rattle.acl_run.specs.Command.{Command}
+use Rattle.acl_words.specs.Command.{Command}
 use Rattle.acl_run.specs.Headline.{HasStoreCause, IsOfNoBytes, IsRefusedAsShown}
 use Rattle.acl_run.specs.Opening.{IsStoreRefused, StoreEnds}
 use Rattle.acl_run.specs.Preview.{wanted_by, wanted_text}
-use Rattle.acl_run.specs.Request.{meant_shown}
+use Rattle.acl_words.specs.Request.{meant_shown}
 use Rattle.acl_run.specs.Steps.{OrNoMemory}
 use Rattle.acl_run.specs.Texts.{WhereWhole, WritesText}
 use Rattle.acl_run.proofs.HeadlineLemmas.{cause_anyway, due_anyway, each_due, held_due, prefix_of_none, reads_are, unasked, unshown}

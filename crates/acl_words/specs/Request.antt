@@ -1,16 +1,16 @@
 -- What the code reads from words, as the definitions have it.
 use Rattle.std.specs.Prelude.{◌≤◌}
 use Rattle.std.specs.Option.{option_copied}
-use Rattle.acl_run.specs.Command as word
-use Rattle.acl_run.specs.Options as option
-use Rattle.acl_run.specs.declared.options.Awaited.{Awaited}
-use Rattle.acl_run.specs.declared.options.Awaited.TheVariants.{AnOption, Query}
-use Rattle.acl_run.specs.declared.options.Options.{Options}
-use Rattle.acl_run.specs.declared.options.Reading.{Reading}
-use Rattle.acl_run.specs.declared.request.Shown.{Shown}
-use Rattle.acl_run.specs.declared.request.Shown.TheVariants.{View, Answer, Explanation}
-use Rattle.acl_run.specs.declared.request.Request.{Request}
-use Rattle.acl_run.specs.declared.request.Request.TheVariants.{Preview, Encode, Seal, View as AView, Sample}
+use Rattle.acl_words.specs.Command as word
+use Rattle.acl_words.specs.Options as option
+use Rattle.acl_words.specs.declared.options.Awaited.{Awaited}
+use Rattle.acl_words.specs.declared.options.Awaited.TheVariants.{AnOption, Query}
+use Rattle.acl_words.specs.declared.options.Options.{Options}
+use Rattle.acl_words.specs.declared.options.Reading.{Reading}
+use Rattle.acl_words.specs.declared.request.Shown.{Shown}
+use Rattle.acl_words.specs.declared.request.Shown.TheVariants.{View, Answer, Explanation}
+use Rattle.acl_words.specs.declared.request.Request.{Request}
+use Rattle.acl_words.specs.declared.request.Request.TheVariants.{Preview, Encode, Seal, View as AView, Sample}
 
 -- what is to be shown
 abbrev pub meant_shown : Shown → word.Shown

@@ -5,8 +5,8 @@ use Rattle.std.specs.Option.{option_map, option_and_then}
 use Rattle.std.specs.Char.{is_ascii_digit}
 use Rattle.std.specs.List.{list_all}
 use Rattle.std.specs.Str.Parse.{digits_value}
-use Rattle.acl_run.specs.Command.{Command, Shown, the_view, an_answer, an_explanation, preview, encode, seal, view, sample}
-use Rattle.acl_run.specs.Options.{Options, is_word, options_of}
+use Rattle.acl_words.specs.Command.{Command, Shown, the_view, an_answer, an_explanation, preview, encode, seal, view, sample}
+use Rattle.acl_words.specs.Options.{Options, is_word, options_of}
 
 -- ---- `preview RULES [--query P] [--explain]`
 

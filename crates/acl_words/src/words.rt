@@ -4,10 +4,10 @@ ghost use Rattle.std.specs.Prelude.{◌≡◌, ◌≤◌, map, string_bytes, IfS
 ghost use Rattle.std.specs.Option.{option_map, option_copied};
 ghost use Rattle.std.specs.Char.{is_ascii_digit};
 ghost use Rattle.std.specs.List.{list_all};
-ghost use Rattle.acl_run.specs.Request.{command_of, meant_options, meant_shown, CanBeMade};
-ghost use Rattle.acl_run.specs.Words.{begins_with_zero, is_numeral, is_sample_size, size_of};
-ghost use Rattle.acl_run.specs.Words.{shown_by, preview_with, preview_of, encode_of, seal_of, sample_of, words_of};
-ghost use Rattle.acl_run.specs.Words.{view_with, view_of, explain_of};
+ghost use Rattle.acl_words.specs.Request.{command_of, meant_options, meant_shown, CanBeMade};
+ghost use Rattle.acl_words.specs.Words.{begins_with_zero, is_numeral, is_sample_size, size_of};
+ghost use Rattle.acl_words.specs.Words.{shown_by, preview_with, preview_of, encode_of, seal_of, sample_of, words_of};
+ghost use Rattle.acl_words.specs.Words.{view_with, view_of, explain_of};
 
 use crate::options::{Options, read_options};
 use crate::request::{Request, Shown};
@@ -131,7 +131,7 @@ fn is_a_size(size: u32) -> bool
 
 /// How many folders a word asks for.
 #[tactic(auto, unfolding(crate::specs::Words::size_of), using(crate::proofs::Sizes::sizes))]
-fn read_size(word: &str) -> Option<u32>
+pub fn read_size(word: &str) -> Option<u32>
     ensures exact { result ≡ size_of word.now }
     ensures range { IfSome result (λ size. (1 ≤ size) × (size ≤ 20000)) }
 {

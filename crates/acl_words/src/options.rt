@@ -2,9 +2,9 @@
 
 ghost use Rattle.std.specs.Prelude.{◌≡◌, map, string_bytes};
 ghost use Rattle.std.specs.Option.{option_map};
-ghost use Rattle.acl_run.specs.Options.{is_value, with_query, with_explain, with_option, with_word};
-ghost use Rattle.acl_run.specs.Options.{options_at_end, options_of};
-ghost use Rattle.acl_run.specs.Request.{meant_options, meant_reading};
+ghost use Rattle.acl_words.specs.Options.{is_value, with_query, with_explain, with_option, with_word};
+ghost use Rattle.acl_words.specs.Options.{options_at_end, options_of};
+ghost use Rattle.acl_words.specs.Request.{meant_options, meant_reading};
 
 /// The options that are given.
 #[derive(Clone, Copy)]
@@ -27,7 +27,7 @@ struct Reading<'a> {
     awaited: Awaited,
 }
 
-fn is_a_value(word: &[u8]) -> bool
+pub fn is_a_value(word: &[u8]) -> bool
     ensures { result ≡ is_value word.now }
 {
     match word {

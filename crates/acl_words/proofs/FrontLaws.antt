@@ -1,0 +1,58 @@
+-- The longest front that some command line begins with, found one word after the other.
+use Rattle.std.proofs.Common.{◌≡◌, ℕ, ◌+◌, ◌-◌, ◌<◌, ◌≤◌, ◌↔◌, Bool, true, false, nat_le, List, [], ◌∷◌, ◌++◌, map, get_or, length, take, drop, refl, sym, ap, subst, ◌∙◌, arith, append_assoc}
+use borrow.Author.Tests.{leb-true, leb-false}
+use Rattle.std.proofs.Math.Seq.{take-add}
+use Rattle.std.proofs.lemmas.List.{take_rest}
+use Rattle.acl_words.specs.Words.{words_of}
+use Rattle.acl_words.specs.Fronts.{IsBegun, IsLongestFront}
+use Rattle.acl_words.specs.Begins.{begins_line}
+use Rattle.acl_words.proofs.Goings.{IsBegun-decided}
+
+-- A result that is the test's decides it.
+pub same_as_begins : (result : Bool) (words : List (List ℕ)) → result ≡ begins_line words → (result ≡ true) ↔ IsBegun words
+same_as_begins result words same = let decided = IsBegun-decided words in (λ is. decided.0 (sym same ∙ is), λ begun. same ∙ decided.1 begun)
+
+-- Some command line begins with no words.
+pub none_begun : (words : List (List ℕ)) → IsBegun (take 0 words)
+none_begun words = (IsBegun-decided (take 0 words)).0 refl
+
+regroup : (a b c : List (List ℕ)) → a ++ (b ++ c) ≡ (a ++ b) ++ c
+regroup a b c = simp append_assoc
+
+-- What begins words begins what they begin.
+begun_before : (words more : List (List ℕ)) → IsBegun (words ++ more) → IsBegun words
+begun_before words more begun = record { rest = more ++ begun.rest; command = begun.command; line = ap words_of (regroup words more begun.rest) ∙ begun.line }
+
+-- A front of a front is begun.
+begun_earlier : (words : List (List ℕ)) (n m : ℕ) → n ≤ m → IsBegun (take m words) → IsBegun (take n words)
+begun_earlier words n m within begun =
+    begun_before (take n words) (take (m - n) (drop n words))
+    (subst IsBegun (ap (λ (k : ℕ). take k words) (omega arith) ∙ take-add n (m - n) words) begun)
+
+-- The next word can't stand behind the front.
+pub longest_before : (words : List (List ℕ)) (n : ℕ) → n < length words → IsBegun (take n words) → (IsBegun (take (n + 1) words) → ⊥) → IsLongestFront words n
+longest_before words n inside begun refused = record { within = omega arith; begun = begun; longest = longest }
+  where
+    longest : (m : ℕ) → m ≤ length words → IsBegun (take m words) → m ≤ n
+    longest m within other = by_order (nat_le m n) refl
+      where
+        by_order : (b : Bool) → nat_le m n ≡ b → m ≤ n
+        by_order true is = leb-true m n is
+        by_order false is = let above = leb-false m n is in absurd (refused (begun_earlier words (n + 1) m (omega arith) other))
+
+-- All words are a front that is begun.
+pub longest_all : (words : List (List ℕ)) (n : ℕ) → length words ≡ n → IsBegun (take n words) → IsLongestFront words n
+longest_all words n all begun = record { within = omega arith; begun = begun; longest = λ m within other. omega arith }
+
+-- No words begin a command line.
+pub begins_none : {A : Type 0} (bytes : A → List ℕ) (words : List A) → length words < 1 → true ≡ begins_line (map bytes words)
+begins_none bytes [] none = refl
+begins_none bytes (word ∷ words) none = absurd (omega arith)
+
+-- The first word and the rest, as code has them, begin what all the words begin.
+pub begins_first : {A : Type 0} (bytes : A → List ℕ) (words : List A) (first : A) (name : List ℕ) (result : Bool) → 1 ≤ length words → first ≡ get_or words 0 first → name ≡ bytes first
+    → result ≡ begins_line (name ∷ map bytes (take (length words - 1) (drop 1 words))) → result ≡ begins_line (map bytes words)
+begins_first bytes [] first name result some is named same = absurd (omega arith)
+begins_first bytes (word ∷ words) first name result some is named same =
+    same ∙ ap (λ (n : List ℕ). begins_line (n ∷ map bytes (take (length (word ∷ words) - 1) words))) (named ∙ ap bytes is)
+    ∙ ap (λ rest. begins_line (bytes word ∷ map bytes rest)) (take_rest (word ∷ words) 1)
