@@ -1,10 +1,10 @@
-//! The program `acl`: it hands the named file and the standard streams to the top call, says how the run ended on
-//! standard error, after a faulty command line with the page of the commands, and ends with that outcome's number.
+//! The program `acl`: it hands the named files and the standard streams to the top call, says on standard error how the
+//! run ended, and ends with that outcome's number.
 #![tactic(auto)]
 
 use acl_outside::{FileStore, ReaderSource, WriterSink};
 use acl_run::{Outcome, outcome_text, run, status};
-use acl_usage::usage;
+use acl_usage::in_words;
 use std::alloc::Global;
 use std::env;
 use std::env::Env;
@@ -57,43 +57,42 @@ fn named_store(rt: &HostRuntime, words: &[String]) -> Option<File> {
 }
 
 /// The run over the real objects. A file that no word names, or that can't be opened, is handed in as one that isn't there.
-fn run_over_streams(rt: &HostRuntime) -> Result<Outcome, Outcome> {
-    let words = words_given(rt)?;
+fn run_over_streams(rt: &HostRuntime, words: &[String]) -> Outcome {
     let mut input = ReaderSource::new(input_given(rt));
-    let mut keys = ReaderSource::new(named_file(rt, words.as_slice()));
-    let mut store = FileStore::new(named_store(rt, words.as_slice()));
+    let mut keys = ReaderSource::new(named_file(rt, words));
+    let mut store = FileStore::new(named_store(rt, words));
     let Ok(output) = BufWriter::new(rt.alloc(), rt.stdout()) else {
-        return Err(Outcome::NoMemory);
+        return Outcome::NoMemory;
     };
     let mut out = WriterSink::new(output);
     let mut note = WriterSink::new(rt.stderr());
-    Ok(run(
+    run(
         rt.alloc(),
-        words.as_slice(),
+        words,
         &mut keys,
         &mut input,
         &mut store,
         &mut out,
         &mut note,
-    ))
+    )
 }
 
-/// Writes the page of the commands to standard error. Where there is no memory for it, it is left out.
-fn write_usage(rt: &HostRuntime) {
-    if let Ok(page) = usage(rt.alloc()) {
-        let _ = rt.stderr().write_all(page.as_bytes());
+/// Says on standard error how the run of these words ended, in the outcome's line and then in words. Where there is no
+/// memory for the words, they are left out.
+fn write_end(rt: &HostRuntime, words: &[String], outcome: &Outcome) {
+    let mut errors = WriterSink::new(rt.stderr());
+    let _ = outcome_text(outcome, &mut errors);
+    if let Ok(more) = in_words(rt.alloc(), words, outcome) {
+        let _ = rt.stderr().write_all(more.as_bytes());
     }
 }
 
 fn main(rt: HostRuntime) -> ExitCode {
-    let outcome = match run_over_streams(&rt) {
-        Ok(outcome) => outcome,
-        Err(outcome) => outcome,
+    let words = words_given(&rt);
+    let (words, outcome) = match &words {
+        Ok(words) => (words.as_slice(), run_over_streams(&rt, words.as_slice())),
+        Err(outcome) => (&[] as &[String], *outcome),
     };
-    let mut errors = WriterSink::new(rt.stderr());
-    let _ = outcome_text(&outcome, &mut errors);
-    if outcome == Outcome::Usage {
-        write_usage(&rt);
-    }
+    write_end(&rt, words, &outcome);
     ExitCode::from(status(&outcome))
 }

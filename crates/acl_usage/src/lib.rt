@@ -1,8 +1,15 @@
-//! The page that tells a new user what `acl` does: its commands, their words and one example of each.
+//! What is said to a user behind the line of an outcome. Of words that are no command line it is which of them is wrong,
+//! and the page of the command that they begin with; where they begin with none, the page of all commands. Of another
+//! outcome it is in which file or stream something was the matter, and what.
 //!
-//! `clap` renders it. It reads no words: which command lines are accepted is said where they are read.
+//! `clap` renders the pages, and reads no words: `acl_words` has which command lines there are.
 #![tactic(auto)]
 
+mod causes;
+
+use acl_outcome::Outcome;
+use acl_words::refused_word;
+use causes::cause_in_words;
 use clap::{Arg, ArgAction, Command};
 use std::alloc::{AllocError, Global};
 
@@ -69,9 +76,9 @@ fn seal(alloc: Global) -> Result<Command<'static>, AllocError> {
         alloc,
         "seal",
         "acl seal",
-        "Seals a licence body: its tag under the seal key of the keys stands before it",
+        "Seals a licence body: its seal under the seal key of the keys stands before it",
         "Reads the licence body from standard input, and writes the sealed licence to standard output.\n\n\
-        Example: acl seal my.keys <my.body >my.licence",
+        Example: acl seal my.keys <my.rules >my.licence",
     )?
     .arg(word(alloc, "KEYS", "File of the keys"))
 }
@@ -100,8 +107,9 @@ fn explain(alloc: Global) -> Result<Command<'static>, AllocError> {
         alloc,
         "explain",
         "acl explain",
-        "Writes which rule of a sealed licence decides at each element that a rule selects",
-        "Reads the sealed licence from standard input, and writes the explanation's lines to standard output.\n\n\
+        "Tells the publisher which rule of a sealed licence decides at each element that a rule selects",
+        "Reads the sealed licence from standard input, and writes the explanation's lines to standard output. They tell\n\
+        of elements that the view hides, so they are not for the reader.\n\n\
         Example: acl explain my.keys my.file <my.licence",
     )?
     .arg(word(alloc, "KEYS", "File of the keys"))?
@@ -121,21 +129,31 @@ fn sample(alloc: Global) -> Result<Command<'static>, AllocError> {
     .arg(word(alloc, "N", "From 1 to 20000"))
 }
 
-fn add_page(text: &mut String, mut command: Command<'static>) -> Result<(), AllocError> {
-    let page = command.render_help()?;
-    text.push_str("\n\n")?;
-    text.push_str(page.as_str())
+/// The command of this name, if there is one.
+fn command_named(alloc: Global, name: &str) -> Result<Option<Command<'static>>, AllocError> {
+    let command = match name {
+        "preview" => preview(alloc)?,
+        "encode" => encode(alloc)?,
+        "seal" => seal(alloc)?,
+        "view" => view(alloc)?,
+        "explain" => explain(alloc)?,
+        "sample" => sample(alloc)?,
+        _ => return Ok(None),
+    };
+    Ok(Some(command))
 }
 
-/// The page.
-pub fn usage(alloc: Global) -> Result<String, AllocError> {
+/// Adds the line of a command's words.
+fn add_words(text: &mut String, mut command: Command<'static>) -> Result<(), AllocError> {
+    let line = command.render_usage()?;
+    text.push_str("\n")?;
+    text.push_str(line.as_str())
+}
+
+/// The page of all commands: what each does, and its words.
+fn page_of_all(alloc: Global) -> Result<String, AllocError> {
     let mut all = Command::new(alloc, "acl")
         .about("Shows of an XML document to each reader what the rules of a licence let through")
-        .after_help(
-            "docs/FORMATS.md describes documents, licence bodies, keys and paths. examples/xml.sh makes the lines\n\
-            of a document from an XML file. A run that fails says so on standard error, in a line 'acl: NUMBER\n\
-            NAME' and more, and ends with that number.",
-        )
         .disable_help_flag(true)
         .disable_help_subcommand(true)
         .subcommand_required(true)
@@ -146,12 +164,65 @@ pub fn usage(alloc: Global) -> Result<String, AllocError> {
         .subcommand(explain(alloc)?)?
         .subcommand(sample(alloc)?)?;
     let mut text = all.render_help()?;
-    add_page(&mut text, preview(alloc)?)?;
-    add_page(&mut text, encode(alloc)?)?;
-    add_page(&mut text, seal(alloc)?)?;
-    add_page(&mut text, view(alloc)?)?;
-    add_page(&mut text, explain(alloc)?)?;
-    add_page(&mut text, sample(alloc)?)?;
-    text.push_str("\n")?;
+    add_words(&mut text, preview(alloc)?)?;
+    add_words(&mut text, encode(alloc)?)?;
+    add_words(&mut text, seal(alloc)?)?;
+    add_words(&mut text, view(alloc)?)?;
+    add_words(&mut text, explain(alloc)?)?;
+    add_words(&mut text, sample(alloc)?)?;
+    text.push_str(
+        "\n\nacl COMMAND, with nothing behind it, says more of its words. docs/FORMATS.md describes documents, licence\n\
+        bodies, keys and paths. examples/xml.sh makes the lines of a document from an XML file. A run that fails\n\
+        says so on standard error, in a line 'acl: NUMBER NAME' and more, and ends with that number.\n",
+    )?;
     Ok(text)
+}
+
+/// The page of the command that the words begin with, or else of all.
+fn page(alloc: Global, words: &[String]) -> Result<String, AllocError> {
+    let named = match words {
+        [name, ..] => command_named(alloc, name.as_str())?,
+        [] => None,
+    };
+    match named {
+        Some(mut command) => command.render_help(),
+        None => page_of_all(alloc),
+    }
+}
+
+/// Adds where the words go wrong. Of no words at all nothing is said.
+fn add_fault(text: &mut String, words: &[String]) -> Result<(), AllocError> {
+    let Some(at) = refused_word(words) else {
+        return Ok(());
+    };
+    match (words.get(at), words.last()) {
+        (Some(word), _) => {
+            text.push_str("acl: unexpected word '")?;
+            text.push_str(word.as_str())?;
+            text.push_str("'\n\n")
+        }
+        (None, Some(last)) => {
+            text.push_str("acl: a word is missing behind '")?;
+            text.push_str(last.as_str())?;
+            text.push_str("'\n\n")
+        }
+        (None, None) => Ok(()),
+    }
+}
+
+/// What is said of words that are no command line.
+fn usage(alloc: Global, words: &[String]) -> Result<String, AllocError> {
+    let mut text = String::new(alloc);
+    add_fault(&mut text, words)?;
+    let page = page(alloc, words)?;
+    text.push_str(page.as_str())?;
+    Ok(text)
+}
+
+/// What is said behind the line of this outcome to the user who gave these words: whole lines, or nothing.
+pub fn in_words(alloc: Global, words: &[String], outcome: &Outcome) -> Result<String, AllocError> {
+    match outcome {
+        Outcome::Usage => usage(alloc, words),
+        other => cause_in_words(alloc, words, *other),
+    }
 }
