@@ -1,30 +1,46 @@
 #!/usr/bin/env bash
-# Tries that the built program answers a faulty command line with the outcome's line and then the page of its commands,
-# both on standard error, and with nothing on standard output.
+# Tries that the built program answers a faulty command line with the outcome's line, the word that is wrong and the page of
+# the command, and says other outcomes in words too: all on standard error, and nothing on standard output.
 set -u
-cd "$(dirname "$0")/.." || exit 2
-program=crates/acl_cli/out/acl_cli
+cd "$(dirname "$0")/../examples" || exit 2
+program=../crates/acl_cli/out/acl_cli
 [ -x "$program" ] || { echo "$program doesn't stand"; exit 2; }
 made=$(mktemp -d) || exit 2
 trap 'rm -rf "$made"' EXIT
 wrong=0
 
-# what is the matter, and the words
+# the outcome's line, a second line, a piece of what follows, and the words; standard input is a licence body
 try() {
-    local what=$1
-    shift
-    "$program" "$@" </dev/null >"$made/out" 2>"$made/error"
+    local line=$1 second=$2 piece=$3
+    shift 3
+    "$program" "$@" <physician.rules >"$made/out" 2>"$made/error"
     local status=$?
-    [ "$status" = 2 ] || { echo "acl, $what: status $status in place of 2"; wrong=1; }
-    [ ! -s "$made/out" ] || { echo "acl, $what: something on standard output"; wrong=1; }
-    [ "$(head -n 1 "$made/error")" = "acl: 2 Usage" ] || { echo "acl, $what: no line of the outcome"; wrong=1; }
-    for named in "Usage: acl preview [OPTIONS] <RULES>" "--query" "--explain" "Usage: acl encode <KEYS>" "Usage: acl seal <KEYS>" "Usage: acl view [OPTIONS] <KEYS> <STORE>" "Usage: acl explain <KEYS> <STORE>" "Usage: acl sample <N>"; do
-        tail -n +2 "$made/error" | grep -qF -- "$named" || { echo "acl, $what: the page lacks $named"; wrong=1; }
-    done
+    [ "acl: $status" = "$(cut -d ' ' -f 1,2 <<<"$line")" ] || { echo "acl $*: status $status"; wrong=1; }
+    [ ! -s "$made/out" ] || { echo "acl $*: something on standard output"; wrong=1; }
+    [ "$(sed -n 1p "$made/error")" = "$line" ] || { echo "acl $*: not $line"; wrong=1; }
+    [ -z "$second" ] || [ "$(sed -n 2p "$made/error")" = "$second" ] || { echo "acl $*: not $second"; wrong=1; }
+    grep -qF -- "$piece" "$made/error" || { echo "acl $*: nothing of $piece"; wrong=1; }
 }
 
-try "no words"
-try "no command" fly
-try "help" --help
-[ "$wrong" -eq 0 ] && echo "A faulty command line gets the page of the commands."
+usage="acl: 2 Usage"
+for piece in "Usage: acl preview [OPTIONS] <RULES>" "Usage: acl encode <KEYS>" "Usage: acl seal <KEYS>" \
+    "Usage: acl view [OPTIONS] <KEYS> <STORE>" "Usage: acl explain <KEYS> <STORE>" "Usage: acl sample <N>"; do
+    try "$usage" "" "$piece"
+    try "$usage" "acl: unexpected word 'fly'" "$piece" fly high
+    try "$usage" "acl: unexpected word '--help'" "$piece" --help
+done
+try "$usage" "acl: a word is missing behind 'preview'" "--explain" preview
+try "$usage" "acl: a word is missing behind '--query'" "--query <P>" preview physician.rules --query
+try "$usage" "acl: unexpected word '--explain'" "--query <P>" preview physician.rules --query /a --explain
+try "$usage" "acl: a word is missing behind 'keys'" "Usage: acl view [OPTIONS] <KEYS> <STORE>" view keys
+try "$usage" "acl: unexpected word 'doctor.licence'" "acl view my.keys my.file <my.licence" view keys hospital.file doctor.licence
+try "$usage" "acl: unexpected word 'more'" "Usage: acl seal <KEYS>" seal keys more
+try "$usage" "acl: unexpected word '0'" "From 1 to 20000" sample 0
+try "acl: 3 KeysFault" "acl: nowhere.rules: it is missing, is a folder, or can't be read" "" preview nowhere.rules
+try "acl: 3 KeysFault" "acl: nowhere: it is missing, is a folder, or can't be read" "" view nowhere hospital.file
+try "acl: 25 BadKeys line=1" "acl: hospital.file: document and 32 digits stand here" "" view hospital.file keys
+try "acl: 22 BadLicence line=1" "acl: standard input: the line of the seal stands here, which acl seal sets before a body" "" view keys hospital.file
+try "acl: 10 BadLine line=1" "acl: standard input: the line is none of a document; examples/xml.sh makes lines of an XML file" "" encode keys
+try "acl: 21 BadRule line=4 at=19" "acl: misspelled.rules: the path goes wrong behind its first 19 bytes, or ends there too early" "" preview misspelled.rules
+[ "$wrong" -eq 0 ] && echo "A faulty command line gets the word that is wrong and the page of its command, and a refusal its words."
 exit "$wrong"

@@ -142,7 +142,8 @@ class Trials:
         self.count += 1
         want = (int(refused.split(" ")[0]), b"", f"acl: {refused}\n".encode()) if refused else (0, written, b"")
         status, out, error = self.run(words, given)
-        if (status, out, error if status != 2 else error[:error.find(b"\n") + 1]) != want:
+        line, more = error[:error.find(b"\n") + 1], error[error.find(b"\n") + 1:]
+        if (status, out, line) != want or (more == b"" and refused) or (more and not refused):
             self.wrong += 1
             print(f"{what}: status {status}, {out[:60]!r}, {error[:200]!r} in place of {want[0]}, {want[1][:60]!r}, {want[2][:200]!r}")
 

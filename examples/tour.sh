@@ -7,8 +7,8 @@ program=../crates/acl_cli/out/acl_cli
 made=$(mktemp -d) || exit 2
 trap 'rm -rf "$made"' EXIT
 
-# Calls $1 with each step: its name, the status that is wanted, the stored output (a name that ends in `.error` is of the line
-# on standard error), the input, what it shows, and the words.
+# Calls $1 with each step: its name, the status that is wanted, the stored output (a name that ends in `.error` is of the first
+# line on standard error), the input, what it shows, and the words.
 each_step() {
     "$1" encode 0 encode.error hospital.esis "A publisher encrypts a document. The file, as hospital.file, may lie on any store; its root is told." encode keys
     "$1" seal 0 physician.licence physician.rules "The rules of a reader are sealed, with that root in them: a physician sees the administration of her own patients." seal keys
@@ -67,7 +67,7 @@ run_unproved() {
     data+=(--data "changed.file=$made/changed.file")
     (cd ../crates/acl_cli && rt try --cases "$made/cases" "${data[@]}") >"$made/all.out" 2>"$made/all.error"
     awk -v made="$made" '/^== / { file = made "/" $2 ".out"; next } file { print > file }' "$made/all.out"
-    awk -v made="$made" '/^(acl: |root )/ { said = $0 } /^case=/ { name = substr($1, 6); sub(/.*status=/, ""); print $1 > (made "/" name ".status"); if (said != "") print said > (made "/" name ".error"); said = "" }' "$made/all.error"
+    awk -v made="$made" '/^(acl: |root )/ { if (said == "") said = $0 } /^case=/ { name = substr($1, 6); sub(/.*status=/, ""); print $1 > (made "/" name ".status"); if (said != "") print said > (made "/" name ".error"); said = "" }' "$made/all.error"
 }
 
 show() {
@@ -76,7 +76,8 @@ show() {
     words=$(printf " '%s'" "${@:6}" | sed "s/'\([A-Za-z0-9.-]*\)'/\1/g")
     printf '\n%s\n$ acl%s <%s\n' "$5" "$words" "$4"
     case $3 in *.error) kind=error ;; esac
-    cat "$made/$1.$kind"
+    sed "s,$made/,," "$made/$1.$kind"
+    [ "$kind" = out ] || sed -i 2,\$d "$made/$1.error"
     if [ "$status" = "$2" ] && cmp -s "$made/$1.$kind" "$3"; then
         echo "As stored in examples/$3, with status $2."
     else
