@@ -38,8 +38,8 @@ try "$usage" "acl: unexpected word 'more'" "Usage: acl seal <KEYS>" seal keys mo
 try "$usage" "acl: unexpected word '0'" "From 1 to 20000" sample 0
 try "acl: 3 KeysFault" "acl: nowhere.rules: it is missing, is a folder, or can't be read" "" preview nowhere.rules
 try "acl: 3 KeysFault" "acl: nowhere: it is missing, is a folder, or can't be read" "" view nowhere hospital.file
-try "acl: 25 BadKeys line=1" "acl: hospital.file: document and 32 digits stand here" "" view hospital.file keys
-try "acl: 22 BadLicence line=1" "acl: standard input: the line of the seal stands here, which acl seal sets before a body" "" view keys hospital.file
+try "acl: 25 BadKeys line=1" "acl: hospital.file: document and 32 digits belong here" "" view hospital.file keys
+try "acl: 22 BadLicence line=1" "acl: standard input: the line of the seal belongs here, which acl seal sets before a body" "" view keys hospital.file
 try "acl: 10 BadLine line=1" "acl: standard input: the line is none of a document; examples/xml.sh makes lines of an XML file" "" encode keys
 try "acl: 21 BadRule line=4 at=19" "acl: misspelled.rules: the path goes wrong behind its first 19 bytes, or ends there too early" "" preview misspelled.rules
 [ "$wrong" -eq 0 ] && echo "A faulty command line gets the word that is wrong and the page of its command, and a refusal its words."

@@ -55,9 +55,9 @@ fn in_store(outcome: Outcome) -> Option<&'static str> {
 /// What should stand in this line of a licence body, counted from 1.
 fn body_line(line: u32) -> &'static str {
     match line {
-        1 => "the line 'licence 1' stands here, without a seal, spaces or a carriage return",
-        2 => "the line that acl encode said stands here: root and 64 digits",
-        3 => "user and a name stand here",
+        1 => "the line 'licence 1' belongs here, without a seal, spaces or a carriage return",
+        2 => "the line that acl encode said belongs here: root and 64 digits",
+        3 => "user and a name belong here",
         _ =>
             "a rule is + or -, an id that no other rule has, and a path; then end, and no other lines",
     }
@@ -66,7 +66,7 @@ fn body_line(line: u32) -> &'static str {
 /// What should stand in this line of a sealed licence.
 fn licence_line(line: u32) -> &'static str {
     match line {
-        0 | 1 => "the line of the seal stands here, which acl seal sets before a body",
+        0 | 1 => "the line of the seal belongs here, which acl seal sets before a body",
         _ => body_line(line - 1),
     }
 }
@@ -75,11 +75,11 @@ fn licence_line(line: u32) -> &'static str {
 fn in_others(outcome: Outcome, is_sealed: bool) -> Option<(Given, &'static str)> {
     Some(match outcome {
         Outcome::KeysFault => (Given::Keys, "it is missing, is a folder, or can't be read"),
-        Outcome::BadKeys { line: 1 } => (Given::Keys, "document and 32 digits stand here"),
-        Outcome::BadKeys { line: 2 } => (Given::Keys, "seal and 64 digits stand here"),
+        Outcome::BadKeys { line: 1 } => (Given::Keys, "document and 32 digits belong here"),
+        Outcome::BadKeys { line: 2 } => (Given::Keys, "seal and 64 digits belong here"),
         Outcome::BadKeys { .. } => (
             Given::Keys,
-            "nothing stands behind the two lines of the keys",
+            "nothing may stand behind the two lines of the keys",
         ),
         Outcome::BadSeal { .. } => {
             (

@@ -107,22 +107,22 @@ fn each_refusal_is_said_in_words(rt: HostRuntime) -> Result<(), Fail> {
         (
             "seal;k",
             Outcome::BadKeys { line: 1 },
-            "acl: k: document and 32 digits stand here\n",
+            "acl: k: document and 32 digits belong here\n",
         ),
         (
             "preview;r",
             Outcome::BadLicence { line: 1 },
-            "acl: r: the line 'licence 1' stands here, without a seal, spaces or a carriage return\n",
+            "acl: r: the line 'licence 1' belongs here, without a seal, spaces or a carriage return\n",
         ),
         (
             "seal;k",
             Outcome::BadLicence { line: 1 },
-            "acl: standard input: the line 'licence 1' stands here, without a seal, spaces or a carriage return\n",
+            "acl: standard input: the line 'licence 1' belongs here, without a seal, spaces or a carriage return\n",
         ),
         (
             view,
             Outcome::BadLicence { line: 1 },
-            "acl: standard input: the line of the seal stands here, which acl seal sets before a body\n",
+            "acl: standard input: the line of the seal belongs here, which acl seal sets before a body\n",
         ),
         (
             view,
@@ -172,7 +172,7 @@ fn each_refusal_is_said_in_words(rt: HostRuntime) -> Result<(), Fail> {
         (
             view,
             Outcome::BadLicence { line: 3 },
-            "acl: standard input: the line that acl encode said stands here: root and 64 digits\n",
+            "acl: standard input: the line that acl encode said belongs here: root and 64 digits\n",
         ),
         (
             "preview;r",
