@@ -1,13 +1,7 @@
 #!/usr/bin/env bash
 # Tries what the built program does with words, files and streams that are not as they should be: the number that it ends
 # with, its line on standard error, and what it wrote.
-set -u
-cd "$(dirname "$0")/../examples" || exit 2
-program=../crates/acl_cli/out/acl_cli
-[ -x "$program" ] || { echo "$program doesn't stand"; exit 2; }
-made=$(mktemp -d) || exit 2
-trap 'rm -rf "$made"' EXIT
-wrong=0
+. "$(dirname "$0")/on_program.sh"
 
 # What is tried, the outcome that is wanted, and a command line in which `acl` is the program. Nothing may be written.
 try() {

@@ -1,13 +1,7 @@
 #!/usr/bin/env bash
 # Tries that the built program answers a faulty command line with the outcome's line, the word that is wrong and the page of
 # the command, and says other outcomes in words too: all on standard error, and nothing on standard output.
-set -u
-cd "$(dirname "$0")/../examples" || exit 2
-program=../crates/acl_cli/out/acl_cli
-[ -x "$program" ] || { echo "$program doesn't stand"; exit 2; }
-made=$(mktemp -d) || exit 2
-trap 'rm -rf "$made"' EXIT
-wrong=0
+. "$(dirname "$0")/on_program.sh"
 
 # the outcome's line, a second line, a piece of what follows, and the words; standard input is a licence body
 try() {
