@@ -15,32 +15,20 @@ use Rattle.acl_walk.specs.declared.event.Event.TheVariants.{Begin, Attr, HeadEnd
 use Rattle.rule_automata.specs.Compile.{automata_of, states_from, have_no_predicates, is_closed}
 use Rattle.rule_automata.specs.declared.state.State.{State}
 use Rattle.token_stack.specs.Entries.{rules_of}
-use Rattle.acl_walk.specs.Open.{OpenPlace, open_after, open_at, tags_of, tags_at}
+use Rattle.acl_walk.specs.Open.{OpenPlace, open_at, tags_of, tags_at}
+use Rattle.acl_walk.specs.OpenLaws.{tags_of-open_after}
 use Rattle.token_stack.specs.Stack.{TokenStack, entries_at, open_elements}
 use Rattle.token_stack.specs.Stand.{levels_after}
 use Rattle.token_stack.specs.Standing.{TokensStandAt, levels_fed, fed}
 use Rattle.token_stack.proofs.StandLaws.{levels_begin, levels_finish, length-levels, rules_at_place}
-use Rattle.token_stack.proofs.OpenLaws.{Fits, tags-with_child, stands_at_place, fits_at, open_at-next}
+use Rattle.token_stack.proofs.OpenLaws.{Fits, stands_at_place, fits_at, open_at-next}
 
 -- ---- tags
-
-tags-drop : (elements : List OpenPlace) → tags_of (drop 1 elements) ≡ drop 1 (tags_of elements)
-tags-drop [] = refl
-tags-drop (element ∷ up) = refl
-
--- the tags behind an event are those that a walk has there
-tags-open_after : (elements : List OpenPlace) (event : Event) → tags_of (open_after elements event) ≡ tags_after (tags_of elements) event
-tags-open_after elements (Begin tag below) = ap (λ ts. tag ∷ ts) (tags-with_child elements)
-tags-open_after elements (Attr piece) = refl
-tags-open_after elements HeadEnd = refl
-tags-open_after elements (Text piece) = refl
-tags-open_after elements (Finish tag) = tags-drop elements
-tags-open_after elements End = refl
 
 tags_at-suc : (list : List Event) (place : ℕ) (event : Event) (rest : List Event) → drop place list ≡ event ∷ rest → tags_at list (place + 1) ≡ tags_after (tags_at list place) event
 tags_at-suc list place event rest is =
     let next : place + 1 ≡ suc place = omega arith in
-    ap (tags_at list) next ∙ ap tags_of (open_at-next [] list place event rest is) ∙ tags-open_after (open_at list place) event
+    ap (tags_at list) next ∙ ap tags_of (open_at-next [] list place event rest is) ∙ tags_of-open_after (open_at list place) event
 
 pub tags_at-next : (list : List Event) (place : ℕ) (event : Event) (next : ℕ) → StandsAt list place event next → tags_at list next ≡ tags_after (tags_at list place) event
 tags_at-next list place (Begin tag below) next at = ap (tags_at list) at.moved ∙ tags_at-suc list place (Begin tag below) (drop (place + 1) list) at.there

@@ -25,6 +25,7 @@ use Rattle.acl_walk.specs.declared.event.Event.{Event}
 use Rattle.acl_walk.specs.declared.event.Event.TheVariants.{Begin, Attr, HeadEnd, Text, Finish, End}
 use Rattle.rule_automata.specs.Meaning.{tag_name, AreTagsOf}
 use Rattle.acl_walk.specs.Open.{OpenPlace, next_place, with_child, open_after, open_behind, open_at, tags_of}
+use Rattle.acl_walk.specs.OpenLaws.{tags_of-with_child}
 use Rattle.token_stack.specs.Standing.{StandsInDocument, StandInDocument}
 
 -- ---- the tag of a name stands for it
@@ -105,10 +106,6 @@ stand-with_child names d [] stand = tt
 stand-with_child names d (parent ∷ up) stand =
     (record { e = stand.0.e; above = stand.0.above; there = stand.0.there; tagged = stand.0.tagged }, stand.1)
 
-pub tags-with_child : (elements : List OpenPlace) → tags_of (with_child elements) ≡ tags_of elements
-tags-with_child [] = refl
-tags-with_child (parent ∷ up) = refl
-
 along_texts : (names : List (List ℕ)) (d : Doc) (elements : List OpenPlace) (parts : List Piece) (rest : List Event) → StandInDocument names d elements
     → Along names d elements rest → Along names d elements (map Text parts ++ rest)
 along_texts names d elements [] rest stand along = along
@@ -133,7 +130,7 @@ mutual
   along_element names d few elements e above own rest (an_element ns el tag below heads contents numbered covers attributes items) there tagged stand along =
       let around : StandInDocument names d (with_child elements) = stand-with_child names d elements stand in
       let tags : AreTagsOf names (tag ∷ tags_of (with_child elements)) (e ∷ above) =
-      (tag_name-tag_of names e.name tag few numbered, subst (λ ts. AreTagsOf names ts above) (sym (tags-with_child elements)) tagged) in
+      (tag_name-tag_of names e.name tag few numbered, subst (λ ts. AreTagsOf names ts above) (sym (tags_of-with_child elements)) tagged) in
       let here : (m : ℕ) → StandInDocument names d (record { tag = tag; place = next_place elements; children = m } ∷ with_child elements) =
       λ m. (record { e = e; above = above; there = there; tagged = tags }, around) in
       let content : Along names d (record { tag = tag; place = next_place elements; children = 0 } ∷ with_child elements) (contents ++ (Finish tag ∷ rest)) =
