@@ -29,11 +29,11 @@ has_bit-shl_high v s i h =
 has_bit-shr : (v s i : ℕ) → has_bit (v / 2 ^ s) i ≡ has_bit v (s + i)
 has_bit-shr v s i = ap (λ x. eqb (x % 2) 1) (shr-shr v s i)
 
-has_bit-mod : (v n i : ℕ) → i < n → has_bit (v % 2 ^ n) i ≡ has_bit v i
+pub has_bit-mod : (v n i : ℕ) → i < n → has_bit (v % 2 ^ n) i ≡ has_bit v i
 has_bit-mod v n i h =
     sym (ap (λ k. eqb k 1) (bit_at_cat_low (v / 2 ^ n) n (v % 2 ^ n) i h)) ∙ ap (λ x. has_bit x i) (shr_split v n)
 
-or_bit : (x y i : ℕ) → has_bit (bit_or x y) i ≡ (has_bit x i || has_bit y i)
+pub or_bit : (x y i : ℕ) → has_bit (bit_or x y) i ≡ (has_bit x i || has_bit y i)
 or_bit x y i = ap (λ k. eqb k 1) (bit_at_or x y i) ∙ digits (bit_at x i) (bit_at y i) (bit_at-lt x i) (bit_at-lt y i)
   where
     digits : (a b : ℕ) → a < 2 → b < 2 → eqb (max a b) 1 ≡ (eqb a 1 || eqb b 1)
@@ -81,7 +81,7 @@ window_behind : (len value n m : ℕ) → n ≤ 32 → len + n ≤ m → m < 8 *
     → has_bit (window_for len value n) (39 - (m - 8 * (len / 8))) ≡ false
 window_behind len value n m h l u = has_bit-shl_low value (40 - len % 8 - n) (39 - (m - 8 * (len / 8))) (omega arith)
 
-or_false : (b c : Bool) → c ≡ false → (b || c) ≡ b
+pub or_false : (b c : Bool) → c ≡ false → (b || c) ≡ b
 or_false true c e = refl
 or_false false c e = e
 

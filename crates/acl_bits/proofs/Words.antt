@@ -76,12 +76,13 @@ put_beside old n m same = elim (cases_eq (m % 64) (n % 64)) [
       ∙ sym (ap (λ b. b || eqb (bit_at old (m % 64)) 1) no)
 ]
 
-put_at : (words : List ℕ) (n m : ℕ) → length words ≡ 4 → n < 256 → m < 256
+-- the number itself, and another number of any word
+pub put_at : (words : List ℕ) (n m : ℕ) → n / 64 < length words
     → is_set (set words (n / 64) (word_after words n)) m ≡ (eqb m n || is_set words m)
 unfolding is_set
-put_at words n m four h l = elim (cases_eq (m / 64) (n / 64)) [
+put_at words n m within = elim (cases_eq (m / 64) (n / 64)) [
   | inl same ↦
-      ap (λ w. eqb (bit_at w (m % 64)) 1) (get_or-set_at words (n / 64) (m / 64) (word_after words n) 0 same (omega arith))
+      ap (λ w. eqb (bit_at w (m % 64)) 1) (get_or-set_at words (n / 64) (m / 64) (word_after words n) 0 same within)
       ∙ put_beside (get_or words (n / 64) 0) n m same
       ∙ ap (λ k. eqb m n || eqb (bit_at (get_or words k 0) (m % 64)) 1) (sym same)
   | inr other ↦
@@ -94,7 +95,7 @@ pub members_of-put : (words : List ℕ) (n : ℕ) → length words ≡ 4 → n <
     → members_of (set words (n / 64) (word_after words n)) ≡ row_of (λ m. eqb m n || is_member (members_of words) m)
 members_of-put words n four h =
     row_of-same (is_set (set words (n / 64) (word_after words n))) (λ m. eqb m n || is_member (members_of words) m)
-    (λ m l. put_at words n m four h l ∙ ap (λ b. eqb m n || b) (sym (is_member-row_of (is_set words) m l)))
+    (λ m l. put_at words n m (omega arith) ∙ ap (λ b. eqb m n || b) (sym (is_member-row_of (is_set words) m l)))
 
 -- one word of the four written
 pub AreWords-set : (words : List ℕ) (k w : ℕ) → AreWords words → k < 4 → w < 2 ^ 64 → AreWords (set words k w)
