@@ -4,7 +4,7 @@ use Rattle.std.specs.List.{list_all, slice_get}
 use Rattle.sha2.specs.Sha256.{sha256}
 use Rattle.acl_outside.specs.Outside.{StoreRead}
 use Rattle.acl_outside.specs.declared.read_fault.ReadFault.{ReadFault}
-use Rattle.acl_outside.specs.declared.read_fault.ReadFault.TheVariants.{StoreFault, StoreShort}
+use Rattle.acl_outside.specs.declared.read_fault.ReadFault.TheVariants.{BadFragment, BadHeader, BadIndex, StoreFault, StoreShort, WrongKey, WrongRoot}
 use Rattle.merkle_chunks.specs.Strings.{absent_child}
 use Rattle.fragment_open.specs.Openings.{Opening}
 use Rattle.fragment_open.specs.Asks.{ask_of, has_sibling, leaf_ask, sibling_ask, sibling_asks}
@@ -38,7 +38,11 @@ pub record IsBegun (n i goal : ℕ) (reads : List StoreRead) : Type 0 where
 abbrev pub IsEnded : ℕ → ℕ → ℕ → ReadFault → List StoreRead → Type 0
 IsEnded n i goal (StoreShort to) reads = IsBegun n i goal reads × IsCut to reads
 IsEnded n i goal StoreFault reads = IsBegun n i goal reads × (list_all is_whole reads ≡ true)
-IsEnded n i goal other reads = ⊥
+IsEnded n i goal BadHeader reads = ⊥
+IsEnded n i goal (WrongRoot want made) reads = ⊥
+IsEnded n i goal (WrongKey want made) reads = ⊥
+IsEnded n i goal (BadFragment index want made) reads = ⊥
+IsEnded n i goal BadIndex reads = ⊥
 
 -- further reads lead an opening from a level and its digest to a level and its digest
 abbrev pub Climbs : ℕ → ℕ → ℕ → List ℕ → ℕ → List ℕ → List StoreRead → Type 0
@@ -58,7 +62,11 @@ pub record IsSibling (n i level : ℕ) (digest : List ℕ) (reads : List StoreRe
 abbrev pub LacksSibling : ℕ → ℕ → ℕ → ReadFault → List StoreRead → Type 0
 LacksSibling n i level (StoreShort to) reads = (map ask_of reads ≡ sibling_ask n i level) × IsCut to reads
 LacksSibling n i level StoreFault reads = (reads ≡ []) × (has_sibling n i level ≡ true)
-LacksSibling n i level other reads = ⊥
+LacksSibling n i level BadHeader reads = ⊥
+LacksSibling n i level (WrongRoot want made) reads = ⊥
+LacksSibling n i level (WrongKey want made) reads = ⊥
+LacksSibling n i level (BadFragment index want made) reads = ⊥
+LacksSibling n i level BadIndex reads = ⊥
 
 -- what places a digest in a table: the number of fragments and the fragment are as before, and the level is this one
 abbrev pub IsNext : ℕ → ℕ → ℕ → ℕ → ℕ → ℕ → Type 0
@@ -78,4 +86,8 @@ pub record IsOpened (n i goal : ℕ) (cipher chunk digest : List ℕ) (reads : L
 abbrev pub IsNotOpened : ℕ → ℕ → ℕ → ReadFault → List StoreRead → Type 0
 IsNotOpened n i goal (StoreShort to) reads = IsBegun n i goal reads × IsCut to reads
 IsNotOpened n i goal StoreFault reads = (reads ≡ []) ⊎ (IsBegun n i goal reads × (list_all is_whole reads ≡ true))
-IsNotOpened n i goal other reads = ⊥
+IsNotOpened n i goal BadHeader reads = ⊥
+IsNotOpened n i goal (WrongRoot want made) reads = ⊥
+IsNotOpened n i goal (WrongKey want made) reads = ⊥
+IsNotOpened n i goal (BadFragment index want made) reads = ⊥
+IsNotOpened n i goal BadIndex reads = ⊥

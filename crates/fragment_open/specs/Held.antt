@@ -25,7 +25,12 @@ sibling_held d key level index = slice_index_or (digests_at sha256 (cipher_fragm
 -- a fault that is the store's own failure, and no other
 abbrev pub IsStoreFault : ReadFault → Type 0
 IsStoreFault StoreFault = Unit {0}
-IsStoreFault other = ⊥
+IsStoreFault BadHeader = ⊥
+IsStoreFault (WrongRoot want made) = ⊥
+IsStoreFault (WrongKey want made) = ⊥
+IsStoreFault (StoreShort at) = ⊥
+IsStoreFault (BadFragment index want made) = ⊥
+IsStoreFault BadIndex = ⊥
 
 -- Where an answer is another fault than the store's own failure, its count of faults is as it was.
 abbrev pub IsQuietElse : ReadFault → ℕ → ℕ → Type 0

@@ -32,7 +32,10 @@ abbrev pub IsNoHeader : ReadFault → List StoreRead → Type 0
 IsNoHeader BadHeader reads = (map ask_of reads ≡ header_ask ∷ []) × (header_served reads ≡ None) × (list_all is_whole reads ≡ true)
 IsNoHeader (StoreShort to) reads = (map ask_of reads ≡ header_ask ∷ []) × (header_served reads ≡ None) × IsCut to reads
 IsNoHeader StoreFault reads = reads ≡ []
-IsNoHeader other reads = ⊥
+IsNoHeader (WrongRoot want made) reads = ⊥
+IsNoHeader (WrongKey want made) reads = ⊥
+IsNoHeader (BadFragment index want made) reads = ⊥
+IsNoHeader BadIndex reads = ⊥
 
 -- The reads are the one of the top digest over n fragments, and it gave this digest.
 pub record IsTopRead (n : ℕ) (top : List ℕ) (reads : List StoreRead) : Type 0 where
@@ -44,7 +47,11 @@ pub record IsTopRead (n : ℕ) (top : List ℕ) (reads : List StoreRead) : Type 
 abbrev pub IsNoTop : ℕ → ReadFault → List StoreRead → Type 0
 IsNoTop n (StoreShort to) reads = (map ask_of reads ≡ top_ask n ∷ []) × IsCut to reads
 IsNoTop n StoreFault reads = reads ≡ []
-IsNoTop n other reads = ⊥
+IsNoTop n BadHeader reads = ⊥
+IsNoTop n (WrongRoot want made) reads = ⊥
+IsNoTop n (WrongKey want made) reads = ⊥
+IsNoTop n (BadFragment index want made) reads = ⊥
+IsNoTop n BadIndex reads = ⊥
 
 -- The reads are those of a start: of a header and of the top digest by it, which served these.
 pub record IsStarted (header : Header) (top : List ℕ) (reads : List StoreRead) : Type 0 where
@@ -108,7 +115,11 @@ pub record IsHead (root key : List ℕ) (header : Header) (top : List ℕ) (take
 abbrev pub IsHeadFault : List ℕ → List ℕ → List ℕ → List ℕ → ReadFault → Type 0
 IsHeadFault root key check made (WrongRoot want other) = (want ≡ root) × (other ≡ made) × (want ≢ other)
 IsHeadFault root key check made (WrongKey want other) = (made ≡ root) × (want ≡ check) × (other ≡ key_check key) × (want ≢ other)
-IsHeadFault root key check made other = ⊥
+IsHeadFault root key check made BadHeader = ⊥
+IsHeadFault root key check made (StoreShort at) = ⊥
+IsHeadFault root key check made StoreFault = ⊥
+IsHeadFault root key check made (BadFragment index want other) = ⊥
+IsHeadFault root key check made BadIndex = ⊥
 
 -- A header and a top digest are under a root, and the key is one whose check is the header's.
 pub record IsUnder (root key : List ℕ) (header : Header) (top taken_key : List ℕ) : Type 0 where

@@ -3,7 +3,7 @@ use Rattle.std.specs.Prelude.{◌≡◌, ℕ, ◌+◌, ◌-◌, ◌<◌, ◌≤�
 use Rattle.std.specs.List.{list_all}
 use Rattle.acl_outside.specs.Outside.{StoreRead}
 use Rattle.acl_outside.specs.declared.read_fault.ReadFault.{ReadFault}
-use Rattle.acl_outside.specs.declared.read_fault.ReadFault.TheVariants.{StoreFault, StoreShort}
+use Rattle.acl_outside.specs.declared.read_fault.ReadFault.TheVariants.{BadFragment, BadHeader, BadIndex, StoreFault, StoreShort, WrongKey, WrongRoot}
 
 -- Where the good reads are told, they grew by reads of which this holds; what is told stays told, and what isn't stays untold.
 abbrev pub Told : Option (List StoreRead) → Option (List StoreRead) → (List StoreRead → Type 0) → Type 0
@@ -32,11 +32,19 @@ ReadsWhole (Ok done) at into reads = reads ≡ record { at = at; asked = length 
 ReadsWhole (Err (StoreShort to)) at into reads =
     (to < at + length into) × (at ≤ to) × (reads ≡ record { at = at; asked = length into; bytes = take (to - at) into } ∷ [])
 ReadsWhole (Err StoreFault) at into reads = reads ≡ []
-ReadsWhole (Err other) at into reads = ⊥
+ReadsWhole (Err BadHeader) at into reads = ⊥
+ReadsWhole (Err (WrongRoot want made)) at into reads = ⊥
+ReadsWhole (Err (WrongKey want made)) at into reads = ⊥
+ReadsWhole (Err (BadFragment index want made)) at into reads = ⊥
+ReadsWhole (Err BadIndex) at into reads = ⊥
 
 -- what such a call gives of the bytes that a store holds: those from the place on, or it comes short where they end before
 abbrev pub GivesWhole : {T : Type 0} → Result T ReadFault → ℕ → List ℕ → List ℕ → Type 0
 GivesWhole (Ok done) at into all = into ≡ take (length into) (drop at all)
 GivesWhole (Err (StoreShort to)) at into all = length all < at + length into
 GivesWhole (Err StoreFault) at into all = Unit {0}
-GivesWhole (Err other) at into all = ⊥
+GivesWhole (Err BadHeader) at into all = ⊥
+GivesWhole (Err (WrongRoot want made)) at into all = ⊥
+GivesWhole (Err (WrongKey want made)) at into all = ⊥
+GivesWhole (Err (BadFragment index want made)) at into all = ⊥
+GivesWhole (Err BadIndex) at into all = ⊥
