@@ -1,0 +1,205 @@
+//! Values, operands and attributes by this project's profile of XPath 1.0, 3.4, each answer worked
+//! out by hand.
+
+use super::*;
+use acl_model::{Bytes, Cmp, Op, Operand};
+use std::alloc::Global;
+use std::test::Fail;
+
+/// A comparison with a whole number.
+fn with_number(op: Op, number: i64) -> Cmp {
+    Cmp {
+        op,
+        operand: Operand::Number(number),
+    }
+}
+
+/// A comparison with a literal.
+fn with_text(alloc: Global, op: Op, text: &str) -> Result<Cmp, Fail> {
+    let bytes = Bytes::from_slice(alloc, text.as_bytes())?;
+    Ok(Cmp {
+        op,
+        operand: Operand::Text(bytes),
+    })
+}
+
+// A whole number is 1 to 18 digits, perhaps after a '-', and nothing else.
+#[test]
+fn a_value_is_a_number_where_it_is_whole(rt: HostRuntime) {
+    for (value, number, is_equal) in [
+        ("9", 9, true),
+        ("9", 8, false),
+        ("-9", -9, true),
+        ("-9", 9, false),
+        ("0", 0, true),
+        ("-0", 0, true),
+        ("009", 9, true),
+        ("000000000000000009", 9, true),
+        ("0000000000000000009", 9, false),
+        ("999999999999999999", 999_999_999_999_999_999, true),
+        ("-999999999999999999", -999_999_999_999_999_999, true),
+        ("1000000000000000000", 1_000_000_000_000_000_000, false),
+        ("-1000000000000000000", -1_000_000_000_000_000_000, false),
+        ("00000000000000000000000009", 9, false),
+        ("", 0, false),
+        ("-", 0, false),
+        ("--1", 1, false),
+        ("+1", 1, false),
+        ("1-", 1, false),
+        (" 9", 9, false),
+        ("9 ", 9, false),
+        ("12.50", 12, false),
+        ("1e3", 1000, false),
+        ("nine", 9, false),
+    ] {
+        let equal = with_number(Op::Eq, number);
+        assert_eq!(rt;
+            does_satisfy(&equal, value.as_bytes()),
+            is_equal,
+            "'{value}' = {number}"
+        );
+        let other = with_number(Op::Ne, number);
+        assert_eq!(rt;
+            does_satisfy(&other, value.as_bytes()),
+            !is_equal,
+            "'{value}' != {number}"
+        );
+    }
+}
+
+#[test]
+fn a_value_is_a_literal_where_the_bytes_are_the_same(rt: HostRuntime) -> Result<(), Fail> {
+    for (value, literal, is_equal) in [
+        ("Rose", "Rose", true),
+        ("", "", true),
+        ("Ros", "Rose", false),
+        ("Roses", "Rose", false),
+        ("rose", "Rose", false),
+        ("", "Rose", false),
+        ("Rose", "", false),
+        ("09", "9", false),
+        (" Rose", "Rose", false),
+    ] {
+        let equal = with_text(rt.alloc(), Op::Eq, literal)?;
+        assert_eq!(rt;
+            does_satisfy(&equal, value.as_bytes()),
+            is_equal,
+            "'{value}' = '{literal}'"
+        );
+        let other = with_text(rt.alloc(), Op::Ne, literal)?;
+        assert_eq!(rt;
+            does_satisfy(&other, value.as_bytes()),
+            !is_equal,
+            "'{value}' != '{literal}'"
+        );
+        let user = Cmp {
+            op: Op::Eq,
+            operand: Operand::User(Bytes::from_slice(rt.alloc(), literal.as_bytes())?),
+        };
+        assert_eq!(rt;
+            does_satisfy(&user, value.as_bytes()),
+            is_equal,
+            "'{value}' = USER"
+        );
+    }
+    Ok(())
+}
+
+// Where one of both is no whole number, neither is less and neither is equal.
+#[test]
+fn values_are_ordered_as_numbers(rt: HostRuntime) -> Result<(), Fail> {
+    for (value, literal, [less, at_most, greater, at_least]) in [
+        ("9", "10", [true, true, false, false]),
+        ("10", "9", [false, false, true, true]),
+        ("009", "9", [false, true, false, true]),
+        ("-2", "-1", [true, true, false, false]),
+        ("a", "b", [false, false, false, false]),
+        ("9", "b", [false, false, false, false]),
+        ("a", "9", [false, false, false, false]),
+        ("9.5", "10", [false, false, false, false]),
+    ] {
+        for (op, holds) in [
+            (Op::Lt, less),
+            (Op::Le, at_most),
+            (Op::Gt, greater),
+            (Op::Ge, at_least),
+        ] {
+            let cmp = with_text(rt.alloc(), op, literal)?;
+            assert_eq!(rt;
+                does_satisfy(&cmp, value.as_bytes()),
+                holds,
+                "'{value}' {op:?} '{literal}'"
+            );
+        }
+    }
+    Ok(())
+}
+
+// A raw attribute is a name, a space and a type, and then nothing, or a space and the value.
+#[test]
+fn an_attribute_counts_by_its_name_and_its_value(rt: HostRuntime) -> Result<(), Fail> {
+    for (raw, has_value, is_rose) in [
+        ("Id CDATA Rose", true, true),
+        ("Id TOKEN Rose", true, true),
+        ("Id CDATA ", true, false),
+        ("Id CDATA", true, false),
+        ("Id", true, false),
+        ("Id CDATA  Rose", true, false),
+        ("Id CDATA Rose Red", true, false),
+        ("Id CDATA IMPLIED", true, false),
+        ("Id IMPLIED", false, false),
+        ("Id IMPLIED Rose", false, false),
+        ("Id  CDATA Rose", true, false),
+        ("Id  Rose", true, true),
+        ("Ids CDATA Rose", false, false),
+        ("I CDATA Rose", false, false),
+        ("id CDATA Rose", false, false),
+        (" Id CDATA Rose", false, false),
+        ("IdCDATA Rose", false, false),
+        ("", false, false),
+    ] {
+        let raw_bytes = raw.as_bytes();
+        assert_eq!(rt;
+            is_attribute_enough(b"Id", &None, raw_bytes),
+            has_value,
+            "{raw}"
+        );
+        let rose = Some(with_text(rt.alloc(), Op::Eq, "Rose")?);
+        assert_eq!(rt;
+            is_attribute_enough(b"Id", &rose, raw_bytes),
+            is_rose,
+            "{raw} = 'Rose'"
+        );
+    }
+    Ok(())
+}
+
+#[test]
+fn one_attribute_of_several_is_enough(rt: HostRuntime) -> Result<(), Fail> {
+    let mut attributes = Vec::new(rt.alloc());
+    for raw in ["Id CDATA Lily", "Kind CDATA Rose", "Id CDATA 7"] {
+        attributes.push(Bytes::from_slice(rt.alloc(), raw.as_bytes())?)?;
+    }
+    let seven = Some(with_number(Op::Eq, 7));
+    let eight = Some(with_number(Op::Eq, 8));
+    for (name, cmp, is_enough) in [
+        ("Id", &seven, true),
+        ("Id", &eight, false),
+        ("Id", &None, true),
+        ("Kind", &seven, false),
+        ("Kind", &None, true),
+        ("Name", &None, false),
+    ] {
+        let found = is_any_attribute_enough(name.as_bytes(), cmp, &attributes);
+        assert_eq!(rt; found, is_enough, "{name}");
+    }
+    assert!(rt; !is_any_attribute_enough(b"Id", &None, &[]));
+    Ok(())
+}
+
+#[test]
+fn any_value_is_enough_without_a_comparison(rt: HostRuntime) {
+    assert!(rt; is_enough(&None, b""));
+    assert!(rt; is_enough(&Some(with_number(Op::Gt, 8)), b"9"));
+    assert!(rt; !is_enough(&Some(with_number(Op::Gt, 9)), b"9"));
+}
