@@ -1,0 +1,13 @@
+//! Which predicates hold at which elements of a document, found for all of them by one walk.
+#![tactic(auto)]
+
+mod machine;
+mod name_rows;
+mod question;
+mod rows;
+mod targets;
+mod truths;
+mod walk;
+
+pub use question::does_pass;
+pub use truths::{PredRef, find_truths};

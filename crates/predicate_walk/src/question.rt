@@ -1,0 +1,70 @@
+//! What is asked of the steps of predicates.
+
+ghost use Rattle.std.specs.Prelude.{◌≡◌};
+ghost use Rattle.acl_model.specs.NameTests.{passes};
+ghost use Rattle.acl_model.specs.Document.{is_dummy_name};
+ghost use Rattle.predicate_walk.specs.States.{is_descendant, passes_each, does_answer};
+
+use acl_model::{Axis, PredStep, Test};
+
+/// What is asked of a step.
+#[derive(Clone, Copy)]
+pub enum Question<'a> {
+    /// Whether it goes to all descendants.
+    IsDeep,
+    /// Whether it passes this name.
+    PassesName(&'a [u8]),
+    /// Whether it passes each name.
+    PassesEachName,
+    /// What is so of none.
+    Nothing,
+}
+
+fn is_a_dummy(name: &[u8]) -> bool
+    ensures { result ≡ is_dummy_name name.now }
+{
+    match name {
+        [byte] => *byte == b'-',
+        _ => false,
+    }
+}
+
+/// Whether an element of this name passes the test.
+pub fn does_pass(test: &Test, name: &[u8]) -> bool
+    ensures { result ≡ passes test.now name.now }
+{
+    match test {
+        Test::Any => true,
+        Test::Named(wanted) => wanted.as_slice() == name && !is_a_dummy(name),
+    }
+}
+
+fn does_pass_each(test: &Test) -> bool
+    ensures { result ≡ passes_each test.now }
+{
+    match test {
+        Test::Any => true,
+        Test::Named(_) => false,
+    }
+}
+
+fn is_deep(axis: Axis) -> bool
+    ensures { result ≡ is_descendant axis }
+{
+    match axis {
+        Axis::Child => false,
+        Axis::Descendant => true,
+    }
+}
+
+/// Whether the step is as asked.
+pub fn does_answer(question: Question<'_>, step: &PredStep) -> bool
+    ensures { result ≡ does_answer question.entry step.now }
+{
+    match question {
+        Question::IsDeep => is_deep(step.axis),
+        Question::PassesName(name) => does_pass(&step.test, name),
+        Question::PassesEachName => does_pass_each(&step.test),
+        Question::Nothing => false,
+    }
+}

@@ -1,0 +1,68 @@
+//! What is found at the end of an element: at which predicates it is a target that is enough, and which of them hold.
+
+ghost use Rattle.std.specs.Prelude.{◌≡◌, ◌+◌, ◌≤◌, true, false, length, replicate, take, drop};
+ghost use Rattle.acl_model.specs.Values.{string_value};
+ghost use Rattle.predicate_walk.specs.Met.{is_enough_at};
+ghost use Rattle.predicate_walk.specs.States.{number_of_states, row_at, inner_row_at, last_states, patched};
+ghost use Rattle.predicate_walk.specs.Texts.{compares_texts, needs_texts, kept};
+ghost use Rattle.predicate_walk.specs.Truths.{preds_in};
+
+use crate::rows::put_flag;
+use crate::truths::PredRef;
+use acl_bits::Flags;
+use acl_model::{Element, Pred};
+use value_scan::{does_satisfy, is_any_attribute_enough};
+
+/// Whether a value of the element is enough; `value` is its string-value, where the predicate compares that.
+#[tactic(auto, using(crate::proofs::PredicateLaws::enough_laws))]
+fn is_target_enough(pred: &Pred, element: &Element, value: &[u8]) -> bool
+    requires { compares_texts pred.now ≡ true → value.now ≡ string_value element.now }
+    ensures { result ≡ is_enough_at pred.now element.now }
+{
+    match &pred.attribute {
+        Some(name) => is_any_attribute_enough(
+            name.as_slice(),
+            &pred.cmp,
+            element.attributes.as_slice(),
+        ),
+        None => match &pred.cmp {
+            Some(cmp) => does_satisfy(cmp, value),
+            None => true,
+        },
+    }
+}
+
+/// Sets the first state of each predicate for which the element is a target that is enough.
+pub fn put_targets(preds: &[PredRef<'_>], element: &Element, value: &[u8], row: &mut Flags)
+    requires value { value.now ≡ kept (needs_texts (preds_in preds.now)) (string_value element.now) }
+    requires inside { row.old ≡ inner_row_at (preds_in preds.now) element.now }
+    ensures { row.new ≡ row_at (preds_in preds.now) element.now }
+{
+    // All places in the row fit a usize.
+    let _ = row.len();
+    let mut start = 0;
+    for r in preds {
+        put_flag(row, start, is_target_enough(r.pred, element, value));
+        start += r.pred.way.len() + 1;
+    }
+}
+
+/// Sets the flag of each predicate whose last state is set. The flags of the predicates begin at this place.
+pub fn put_truths(preds: &[PredRef<'_>], row: &Flags, flags: &mut Flags, at: usize)
+    requires row { length row.now ≡ number_of_states (preds_in preds.now) }
+    requires room { at + length preds.now ≤ length flags.old }
+    requires clear { take (length preds.now) (drop at flags.old) ≡ replicate (length preds.now) false }
+    ensures { flags.new ≡ patched at (last_states (preds_in preds.now) row.now) flags.old }
+{
+    // All places in the row and in the flags fit a usize.
+    let _ = row.len();
+    let _ = flags.len();
+    let mut start = 0;
+    let mut place = at;
+    for r in preds {
+        let last = start + r.pred.way.len();
+        put_flag(flags, place, row.has(last));
+        start = last + 1;
+        place += 1;
+    }
+}
