@@ -1,3 +1,4 @@
 pub mod NumberLaws
 pub mod NameLaws
 pub mod SpaceLaws
+pub mod ProgressLaws

@@ -1,6 +1,6 @@
 -- One pass over a raw attribute's name says whether it is the name, and where the type begins.
 use Rattle.std.proofs.Common.{◌≡◌, ℕ, ◌+◌, ◌<◌, Bool, true, false, not, nat_eq, ◌&&◌, Option, Some, None, List, [], ◌∷◌, length, take, drop, refl, ap, sym, ◌∙◌, arith, if◌then◌else◌, drop-cons, suc}
-use Rattle.std.specs.List.{before_first, after_first, position_or_len, prefix_len}
+use Rattle.std.specs.List.{before_first, after_first, position_or_len}
 use Rattle.std.specs.Option.{option_map_or}
 use Rattle.std.specs.Cmp.Lexicographic.{pointwise}
 use Rattle.acl_model.specs.Predicates.{is_enough}
@@ -9,7 +9,8 @@ use Rattle.acl_model.specs.declared.path.Cmp.{Cmp}
 use Rattle.value_scan.specs.Attributes.{after_name, attribute_is_enough, typed_is_enough}
 
 -- Another byte than a space stands before the first space.
-before-other : (b : ℕ) (raw : List ℕ) → is_space b ≡ false → before_first is_space (b ∷ raw) ≡ b ∷ before_first is_space raw
+before-other : (b : ℕ) (raw : List ℕ) → is_space b ≡ false
+    → before_first is_space (b ∷ raw) ≡ b ∷ before_first is_space raw
 before-other b raw other =
     let one : 1 + position_or_len is_space raw ≡ suc (position_or_len is_space raw) = omega arith in
     rw (other, one) refl
@@ -28,17 +29,23 @@ has_name test name raw = pointwise nat_eq (before_first is_space raw) name && te
 abbrev passes_after : (List ℕ → Bool) → List ℕ → List ℕ → Bool
 passes_after test name raw = option_map_or test (after_name name raw) false
 
-name_ends : (test : List ℕ → Bool) (b : ℕ) (raw : List ℕ) (t : Bool) → is_space b ≡ t → has_name test [] (b ∷ raw) ≡ passes_after test [] (b ∷ raw)
+name_ends : (test : List ℕ → Bool) (b : ℕ) (raw : List ℕ) (t : Bool) → is_space b ≡ t
+    → has_name test [] (b ∷ raw) ≡ passes_after test [] (b ∷ raw)
 name_ends test b raw true is = rw is refl
 name_ends test b raw false is = rw (before-other b raw is, is) refl
 
-name_goes_on : (test : List ℕ → Bool) (n b : ℕ) (name raw : List ℕ) (t : Bool) → is_space b ≡ t → has_name test name raw ≡ passes_after test name raw
+name_goes_on : (test : List ℕ → Bool) (n b : ℕ) (name raw : List ℕ) (t : Bool) → is_space b ≡ t
+    → has_name test name raw ≡ passes_after test name raw
     → has_name test (n ∷ name) (b ∷ raw) ≡ passes_after test (n ∷ name) (b ∷ raw)
 name_goes_on test n b name raw true is rest =
-    rw is (elim (nat_eq b n) as (λ t. false ≡ option_map_or test (if t && false then after_name name raw else None) false) [ true ↦ refl | false ↦ refl ])
+    rw is (elim (nat_eq b n) as
+    (λ t. false ≡ option_map_or test (if t && false then after_name name raw else None) false)
+    [ true ↦ refl | false ↦ refl ])
 name_goes_on test n b name raw false is rest =
     rw (before-other b raw is, after-other b raw is, is)
-    (elim (nat_eq b n) as (λ t. ((t && pointwise nat_eq (before_first is_space raw) name) && test (after_first is_space raw)) ≡ option_map_or test (if t && true then after_name name raw else None) false)
+    (elim (nat_eq b n) as
+    (λ t. ((t && pointwise nat_eq (before_first is_space raw) name) && test (after_first is_space raw)) ≡
+    option_map_or test (if t && true then after_name name raw else None) false)
     [ true ↦ rest | false ↦ refl ])
 
 -- One pass finds the name, and what follows its space.
@@ -53,21 +60,29 @@ and_assoc true b c = refl
 and_assoc false b c = refl
 
 -- So an attribute is enough where one pass finds its name, and its type and value are enough.
-attribute_is : (name : List ℕ) (cmp : Option Cmp) (raw : List ℕ) → attribute_is_enough name cmp raw ≡ option_map_or (typed_is_enough cmp) (after_name name raw) false
+attribute_is : (name : List ℕ) (cmp : Option Cmp) (raw : List ℕ)
+    → attribute_is_enough name cmp raw ≡ option_map_or (typed_is_enough cmp) (after_name name raw) false
 attribute_is name cmp raw =
-    and_assoc (pointwise nat_eq (before_first is_space raw) name) (not (pointwise nat_eq (before_first is_space (after_first is_space raw)) implied)) (is_enough cmp (after_first is_space (after_first is_space raw)))
+    and_assoc (pointwise nat_eq (before_first is_space raw) name)
+    (not (pointwise nat_eq (before_first is_space (after_first is_space raw)) implied))
+    (is_enough cmp (after_first is_space (after_first is_space raw)))
     ∙ name_is (typed_is_enough cmp) name raw
 
 -- the name is found
-pub attribute_found : (name : List ℕ) (cmp : Option Cmp) (raw typed : List ℕ) → after_name name raw ≡ Some typed → typed_is_enough cmp typed ≡ attribute_is_enough name cmp raw
-attribute_found name cmp raw typed found = sym (attribute_is name cmp raw ∙ ap (λ o. option_map_or (typed_is_enough cmp) o false) found)
+pub attribute_found : (name : List ℕ) (cmp : Option Cmp) (raw typed : List ℕ) → after_name name raw ≡ Some typed
+    → typed_is_enough cmp typed ≡ attribute_is_enough name cmp raw
+attribute_found name cmp raw typed found =
+    sym (attribute_is name cmp raw ∙ ap (λ o. option_map_or (typed_is_enough cmp) o false) found)
 
 -- another name is found
-pub attribute_other : (name : List ℕ) (cmp : Option Cmp) (raw : List ℕ) → after_name name raw ≡ None → false ≡ attribute_is_enough name cmp raw
-attribute_other name cmp raw other = sym (attribute_is name cmp raw ∙ ap (λ o. option_map_or (typed_is_enough cmp) o false) other)
+pub attribute_other : (name : List ℕ) (cmp : Option Cmp) (raw : List ℕ) → after_name name raw ≡ None
+    → false ≡ attribute_is_enough name cmp raw
+attribute_other name cmp raw other =
+    sym (attribute_is name cmp raw ∙ ap (λ o. option_map_or (typed_is_enough cmp) o false) other)
 
 -- A name of which bytes are left is not found where the attribute has ended.
-pub after_name-short : (name rest : List ℕ) (i : ℕ) → i < length name → length rest < 1 → after_name (drop i name) rest ≡ None
+pub after_name-short : (name rest : List ℕ) (i : ℕ) → i < length name → length rest < 1
+    → after_name (drop i name) rest ≡ None
 after_name-short name [] i inside short = rw (drop-cons name i 0 inside) refl
 after_name-short name (b ∷ rest) i inside short = absurd (omega arith)
 

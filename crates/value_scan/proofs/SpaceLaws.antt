@@ -13,15 +13,19 @@ use Rattle.acl_model.proofs.LineLaws.{cut_at-found, cut_at-none}
 inside_or_past : (i n : ℕ) → (i < n) ⊎ (n ≤ i)
 inside_or_past i zero = inr (omega arith)
 inside_or_past zero (suc n) = inl (omega arith)
-inside_or_past (suc i) (suc n) = elim (inside_or_past i n) [ inl h ↦ inl (omega (arith, h)) | inr h ↦ inr (omega (arith, h)) ]
+inside_or_past (suc i) (suc n) =
+    elim (inside_or_past i n) [ inl h ↦ inl (omega (arith, h)) | inr h ↦ inr (omega (arith, h)) ]
 
 -- no byte before the first space is one
 none_before : (bytes : List ℕ) (k : ℕ) → k < position_or_len is_space bytes → get_or bytes k 0 ≡ 32 → ⊥
 none_before bytes k before is = true≢false (sym (ap is_space is) ∙ fails_before_first is_space bytes k 0 before)
 
 -- the cut, where there is a space
-cut_where_found : (bytes : List ℕ) → position_or_len is_space bytes < length bytes → cut_at 32 bytes ≡ Some (before_first is_space bytes, after_first is_space bytes)
-cut_where_found bytes inside = cut_at-found 32 bytes (position_or_len is_space bytes) (none_before bytes) inside (eqb-true (get_or bytes (position_or_len is_space bytes) 0) 32 (passes_at_first is_space bytes 0 inside))
+cut_where_found : (bytes : List ℕ) → position_or_len is_space bytes < length bytes
+    → cut_at 32 bytes ≡ Some (before_first is_space bytes, after_first is_space bytes)
+cut_where_found bytes inside =
+    cut_at-found 32 bytes (position_or_len is_space bytes) (none_before bytes) inside
+    (eqb-true (get_or bytes (position_or_len is_space bytes) 0) 32 (passes_at_first is_space bytes 0 inside))
 
 -- there is none to cut at, where there is no space
 cut_where_none : (bytes : List ℕ) → length bytes ≤ position_or_len is_space bytes → cut_at 32 bytes ≡ None
@@ -34,7 +38,8 @@ same_within : {A : Type 0} (x y : A) → Some x ≡ Some y → x ≡ y
 same_within x y h = ap (λ o. unwrap_or o x) h
 
 -- What a cut gives stands before and after the first space.
-same_parts : (bytes : List ℕ) (p : List ℕ × List ℕ) → cut_at 32 bytes ≡ Some p → (p.0 ≡ before_first is_space bytes) × (p.1 ≡ after_first is_space bytes)
+same_parts : (bytes : List ℕ) (p : List ℕ × List ℕ) → cut_at 32 bytes ≡ Some p
+    → (p.0 ≡ before_first is_space bytes) × (p.1 ≡ after_first is_space bytes)
 same_parts bytes p is = elim (inside_or_past (position_or_len is_space bytes) (length bytes)) [
   | inl inside ↦
       let parts : List ℕ × List ℕ = (before_first is_space bytes, after_first is_space bytes) in
@@ -43,22 +48,28 @@ same_parts bytes p is = elim (inside_or_past (position_or_len is_space bytes) (l
   | inr past ↦ absurd (none_is_not_some p (sym (cut_where_none bytes past) ∙ is))
 ]
 
-pub before_of_cut : (bytes before after : List ℕ) → cut_at 32 bytes ≡ Some (before, after) → before ≡ before_first is_space bytes
+pub before_of_cut : (bytes before after : List ℕ) → cut_at 32 bytes ≡ Some (before, after)
+    → before ≡ before_first is_space bytes
 before_of_cut bytes before after is = (same_parts bytes (before, after) is).0
 
-pub after_of_cut : (bytes before after : List ℕ) → cut_at 32 bytes ≡ Some (before, after) → after ≡ after_first is_space bytes
+pub after_of_cut : (bytes before after : List ℕ) → cut_at 32 bytes ≡ Some (before, after)
+    → after ≡ after_first is_space bytes
 after_of_cut bytes before after is = (same_parts bytes (before, after) is).1
 
 -- Without a cut all stands before, and nothing after.
 pub before_without_cut : (bytes : List ℕ) → cut_at 32 bytes ≡ None → bytes ≡ before_first is_space bytes
 before_without_cut bytes none = elim (inside_or_past (position_or_len is_space bytes) (length bytes)) [
-  | inl inside ↦ absurd (none_is_not_some (before_first is_space bytes, after_first is_space bytes) (sym none ∙ cut_where_found bytes inside))
+  | inl inside ↦ absurd
+      (none_is_not_some (before_first is_space bytes, after_first is_space bytes)
+      (sym none ∙ cut_where_found bytes inside))
   | inr past ↦ sym (take_all (position_or_len is_space bytes) bytes past)
 ]
 
 pub after_without_cut : (bytes : List ℕ) → cut_at 32 bytes ≡ None → [] ≡ after_first is_space bytes
 after_without_cut bytes none = elim (inside_or_past (position_or_len is_space bytes) (length bytes)) [
-  | inl inside ↦ absurd (none_is_not_some (before_first is_space bytes, after_first is_space bytes) (sym none ∙ cut_where_found bytes inside))
+  | inl inside ↦ absurd
+      (none_is_not_some (before_first is_space bytes, after_first is_space bytes)
+      (sym none ∙ cut_where_found bytes inside))
   | inr past ↦ sym (drop_all (position_or_len is_space bytes + 1) bytes (omega (arith, past)))
 ]
 

@@ -1,4 +1,4 @@
--- Which raw attributes give a value that is enough. This project's own, over the values of acl_model.
+-- Which raw attributes give a value that is enough. This project's own, over acl_model's values.
 use Rattle.std.specs.Prelude.{ℕ, Bool, not, nat_eq, ◌&&◌, Option, Some, None, List, [], ◌∷◌, if◌then◌else◌}
 use Rattle.std.specs.Cmp.Lexicographic.{pointwise}
 use Rattle.std.specs.List.{before_first, after_first}
@@ -12,13 +12,17 @@ attribute_is_enough name cmp raw = gives_value name raw && is_enough cmp (attrib
 
 -- ---- the same in one pass from the first byte on
 
--- What follows the name and its space in a raw attribute of this name: nothing, where the name ends it.
+-- What follows the name and its space in a raw attribute of this name. Nothing does where the
+-- attribute ends with its name.
 abbrev pub after_name : List ℕ → List ℕ → Option (List ℕ)
 after_name [] [] = Some []
 after_name [] (b ∷ raw) = if is_space b then Some raw else None
 after_name (n ∷ name) [] = None
-after_name (n ∷ name) (b ∷ raw) = if nat_eq b n && not (is_space b) then after_name name raw else None
+after_name (n ∷ name) (b ∷ raw) =
+    if nat_eq b n && not (is_space b) then after_name name raw else None
 
 -- A type that isn't IMPLIED, and after its space a value that is enough.
 abbrev pub typed_is_enough : Option Cmp → List ℕ → Bool
-typed_is_enough cmp typed = not (pointwise nat_eq (before_first is_space typed) implied) && is_enough cmp (after_first is_space typed)
+typed_is_enough cmp typed =
+    not (pointwise nat_eq (before_first is_space typed) implied)
+    && is_enough cmp (after_first is_space typed)

@@ -1,5 +1,5 @@
--- The whole number that the bytes so far write. This project's own; that all bytes of a value write the number that
--- acl_model says is a law.
+-- The whole number that the bytes so far write. This project's own; that all bytes of a value write
+-- the number that acl_model says is a law.
 use Rattle.std.specs.Prelude.{ℕ, ◌+◌, ◌-◌, ◌*◌, ℤ, pos, Bool, true, false, nat_eq, nat_lt, ◌&&◌, Option, Some, None, List, [], ◌∷◌, if◌then◌else◌}
 use Rattle.std.specs.Char.{is_ascii_digit}
 use Rattle.acl_model.specs.Ascii.{hyphen}
@@ -11,7 +11,8 @@ use Rattle.value_scan.specs.declared.numeral.Numeral.TheVariants.{Start, Minus, 
 abbrev pub leading_digit : Bool → ℕ → Numeral
 leading_digit minus b = if is_ascii_digit b then Digits minus 1 (b - 48) else Unfit
 
--- A further digit makes the number ten times as large and adds itself, up to 18 digits; any other byte fits none.
+-- A further digit makes the number ten times as large and adds itself, up to 18 digits; any other
+-- byte fits none.
 abbrev pub numeral_after : Numeral → ℕ → Numeral
 numeral_after Start b = if nat_eq b hyphen then Minus else leading_digit false b
 numeral_after Minus b = leading_digit true b
@@ -34,5 +35,6 @@ signed false n = pos n
 abbrev pub number_of : Numeral → Option ℤ
 number_of Start = None
 number_of Minus = None
-number_of (Digits minus count number) = if nat_lt number 1000000000000000000 then Some (signed minus number) else None
+number_of (Digits minus count number) =
+    if nat_lt number 1000000000000000000 then Some (signed minus number) else None
 number_of Unfit = None

@@ -2,7 +2,8 @@
 
 ghost use Rattle.std.specs.Prelude.{◌≡◌};
 ghost use Rattle.acl_model.specs.Numbers.{whole};
-ghost use Rattle.value_scan.specs.Numerals.{leading_digit, numeral_after, numeral_after_all, number_of};
+ghost use Rattle.value_scan.specs.Numerals.{leading_digit, numeral_after};
+ghost use Rattle.value_scan.specs.Numerals.{numeral_after_all, number_of};
 
 /// The whole number that the bytes so far write.
 #[derive(Debug, Clone, Copy)]

@@ -4,6 +4,7 @@
 use super::*;
 use acl_model::{Bytes, Cmp, Op, Operand};
 use std::alloc::Global;
+use std::process::Abort;
 use std::test::Fail;
 
 /// A comparison with a whole number.
@@ -21,6 +22,29 @@ fn with_text(alloc: Global, op: Op, text: &str) -> Result<Cmp, Fail> {
         op,
         operand: Operand::Text(bytes),
     })
+}
+
+/// Asserts what a comparison gives of the whole value, of the value cut in two at each place, and
+/// of its bytes one by one.
+fn assert_answer(rt: &impl Abort, cmp: &Cmp, value: &str, holds: bool) {
+    let (bytes, op) = (value.as_bytes(), cmp.op);
+    assert_eq!(rt; does_satisfy(cmp, bytes), holds, "'{value}' {op:?}");
+    let mut single = begun();
+    for (middle, byte) in bytes.iter().enumerate() {
+        let first = feed(begun(), &cmp.operand, &bytes[..middle]);
+        let both = feed(first, &cmp.operand, &bytes[middle..]);
+        assert_eq!(rt;
+            is_satisfied(cmp, both),
+            holds,
+            "'{value}' {op:?}, cut at {middle}"
+        );
+        single = feed(single, &cmp.operand, &[*byte]);
+    }
+    assert_eq!(rt;
+        is_satisfied(cmp, single),
+        holds,
+        "'{value}' {op:?}, by its bytes"
+    );
 }
 
 // A whole number is 1 to 18 digits, perhaps after a '-', and nothing else.
@@ -53,17 +77,9 @@ fn a_value_is_a_number_where_it_is_whole(rt: HostRuntime) {
         ("nine", 9, false),
     ] {
         let equal = with_number(Op::Eq, number);
-        assert_eq!(rt;
-            does_satisfy(&equal, value.as_bytes()),
-            is_equal,
-            "'{value}' = {number}"
-        );
+        assert_answer(&rt, &equal, value, is_equal);
         let other = with_number(Op::Ne, number);
-        assert_eq!(rt;
-            does_satisfy(&other, value.as_bytes()),
-            !is_equal,
-            "'{value}' != {number}"
-        );
+        assert_answer(&rt, &other, value, !is_equal);
     }
 }
 
@@ -81,26 +97,14 @@ fn a_value_is_a_literal_where_the_bytes_are_the_same(rt: HostRuntime) -> Result<
         (" Rose", "Rose", false),
     ] {
         let equal = with_text(rt.alloc(), Op::Eq, literal)?;
-        assert_eq!(rt;
-            does_satisfy(&equal, value.as_bytes()),
-            is_equal,
-            "'{value}' = '{literal}'"
-        );
+        assert_answer(&rt, &equal, value, is_equal);
         let other = with_text(rt.alloc(), Op::Ne, literal)?;
-        assert_eq!(rt;
-            does_satisfy(&other, value.as_bytes()),
-            !is_equal,
-            "'{value}' != '{literal}'"
-        );
+        assert_answer(&rt, &other, value, !is_equal);
         let user = Cmp {
             op: Op::Eq,
             operand: Operand::User(Bytes::from_slice(rt.alloc(), literal.as_bytes())?),
         };
-        assert_eq!(rt;
-            does_satisfy(&user, value.as_bytes()),
-            is_equal,
-            "'{value}' = USER"
-        );
+        assert_answer(&rt, &user, value, is_equal);
     }
     Ok(())
 }
@@ -125,11 +129,7 @@ fn values_are_ordered_as_numbers(rt: HostRuntime) -> Result<(), Fail> {
             (Op::Ge, at_least),
         ] {
             let cmp = with_text(rt.alloc(), op, literal)?;
-            assert_eq!(rt;
-                does_satisfy(&cmp, value.as_bytes()),
-                holds,
-                "'{value}' {op:?} '{literal}'"
-            );
+            assert_answer(&rt, &cmp, value, holds);
         }
     }
     Ok(())
@@ -202,4 +202,33 @@ fn any_value_is_enough_without_a_comparison(rt: HostRuntime) {
     assert!(rt; is_enough(&None, b""));
     assert!(rt; is_enough(&Some(with_number(Op::Gt, 8)), b"9"));
     assert!(rt; !is_enough(&Some(with_number(Op::Gt, 9)), b"9"));
+}
+
+// A progress is settled once the literal differs and no whole number can come of it.
+#[test]
+fn a_progress_is_settled_where_no_byte_can_change_it(rt: HostRuntime) -> Result<(), Fail> {
+    let rose = with_text(rt.alloc(), Op::Eq, "Rose")?;
+    let nine = with_number(Op::Eq, 9);
+    for (cmp, value, settled) in [
+        (&rose, "", false),
+        (&rose, "R", false),
+        (&rose, "Rose", false),
+        (&rose, "Roses", true),
+        (&rose, "Lily", true),
+        (&rose, "7", false),
+        (&rose, "7s", true),
+        (&nine, "", false),
+        (&nine, "-", false),
+        (&nine, "8", false),
+        (&nine, "9 ", true),
+        (&nine, "+", true),
+        (&nine, "000000000000000009", false),
+        (&nine, "0000000000000000009", true),
+    ] {
+        let progress = feed(begun(), &cmp.operand, value.as_bytes());
+        assert_eq!(rt; is_settled(progress), settled, "'{value}'");
+        let further = feed(progress, &cmp.operand, b"Rose");
+        assert!(rt; !settled || is_settled(further), "'{value}' and more");
+    }
+    Ok(())
 }
