@@ -1,8 +1,5 @@
 pub mod Lists
-pub mod ScanLaws
-pub mod SpaceLaws
-pub mod NumberLaws
-pub mod PredicateLaws
+pub mod KnownLaws
 pub mod MarkLaws
 pub mod ViewLaws
 pub mod SignLaws

@@ -1,5 +1,4 @@
-pub mod Scans
-pub mod Met
 pub mod Marks
+pub mod Known
 pub mod Told
 pub mod Shows

@@ -1,12 +1,16 @@
 //! Which elements rules select, and where the signs of a document come from, by one walk over it in document order.
 
-ghost use Rattle.std.specs.Prelude.{◌≡◌, ◌<◌, ◌≤◌, ◌+◌, ◌-◌, ◌^◌, [], ◌∷◌, ◌++◌, IfOk, map, length, if◌then◌else◌};
+ghost use Rattle.std.specs.Prelude.{◌≡◌, ◌<◌, ◌≤◌, ◌+◌, ◌-◌, ◌^◌, [], ◌∷◌, ◌++◌, IfOk, OnOk, map, length, drop, if◌then◌else◌};
 ghost use Rattle.acl_model.specs.Places.{element_of};
 ghost use Rattle.acl_model.specs.Explain.{explain, selected};
+ghost use Rattle.tree_meaning.specs.Known.{StartsWith, preds_of, flags_within, flags_of_item};
 ghost use Rattle.tree_meaning.specs.Marks.{marked_step, marked_steps, row_below};
 ghost use Rattle.tree_meaning.specs.Told.{explanation_in, explanations_in, rules_in, is_last, selects_as, first_here, is_selected_here, told_here, told_if_selected, told_if_unselected, told_from, told_of_child, number_after};
 
+use crate::known::Known;
 use crate::marks::{Progress, all_begun, all_below, begin, does_any_select, sign_of};
+use crate::preds::find_flags;
+use acl_bits::Flags;
 use acl_model::{Doc, Element, Item, Path, Place, Rule, Sign};
 use acl_outside::NoMemory;
 use std::alloc::{AllocError, Global};
@@ -103,14 +107,17 @@ fn tell_if_unselected(
     alloc: Global,
     row: &[Progress<'_>],
     root: &Element,
+    flags: &Flags,
     told: &mut Vec<Told>,
 ) -> Result<(), AllocError>
-    requires { rules_in (marked_steps row.now) ≤ 65536 }
+    requires few { rules_in (marked_steps row.now) ≤ 65536 }
+    requires known { flags.now ≡ flags_within (preds_of (marked_steps row.now)) root.now }
     ensures { IfOk result (λ done. explanations_in told.new.items
         ≡ explanations_in told.old.items
         ++ told_if_unselected (row_below root.now (marked_steps row.now))) }
 {
-    let row = all_below(alloc, row, root)?;
+    let mut known = Known::all(flags);
+    let row = all_below(alloc, row, root, &mut known)?;
     if !is_selected(row.as_slice()) {
         told.push(told_at(alloc, row.as_slice(), &[])?)?;
     }
@@ -131,25 +138,30 @@ fn number_after(item: &Item, number: u64) -> u64
 
 /// Tells of an element, where a rule selects it, and of those inside it. `place` is its place, before and after the call.
 #[cycle(walk)]
-#[tactic(auto, using(crate::proofs::ToldLaws::rules_below, crate::proofs::Lists::list_steps))]
+#[tactic(auto, using(crate::proofs::ToldLaws::rules_below, crate::proofs::Lists::list_steps, crate::proofs::KnownLaws::walk_steps))]
 fn explain_element(
     alloc: Global,
     row: &[Progress<'_>],
     element: &Element,
+    known: &mut Known<'_>,
     place: &mut Vec<u64>,
     told: &mut Vec<Told>,
 ) -> Result<(), AllocError>
-    requires { rules_in (marked_steps row.now) ≤ 65536 }
+    requires few { rules_in (marked_steps row.now) ≤ 65536 }
+    requires known { StartsWith (flags_within (preds_of (marked_steps row.now)) element.now)
+        known.old }
     ensures place { IfOk result (λ done. place.new.items ≡ place.old.items) }
+    ensures known { OnOk result (known.new
+        ≡ drop (length (flags_within (preds_of (marked_steps row.now)) element.now)) known.old) }
     ensures told { IfOk result (λ done. explanations_in told.new.items
         ≡ explanations_in told.old.items
         ++ told_from (marked_steps row.now) place.old.items element.now) }
 {
-    let row = all_below(alloc, row, element)?;
+    let row = all_below(alloc, row, element, known)?;
     tell_if_selected(alloc, row.as_slice(), place.as_slice(), told)?;
     let mut number: u64 = 1;
     for item in element.items.as_slice() {
-        explain_item(alloc, row.as_slice(), number, item, place, told)?;
+        explain_item(alloc, row.as_slice(), number, item, known, place, told)?;
         number = number_after(item, number);
     }
     Ok(())
@@ -157,17 +169,22 @@ fn explain_element(
 
 /// Tells of the elements in an item of the element at this place; an element child has this number.
 #[cycle(walk)]
-#[tactic(auto, using(crate::proofs::SignLaws::element_laws, crate::proofs::Lists::list_steps))]
+#[tactic(auto, using(crate::proofs::SignLaws::element_laws, crate::proofs::Lists::list_steps, crate::proofs::KnownLaws::item_flags))]
 fn explain_item(
     alloc: Global,
     row: &[Progress<'_>],
     number: u64,
     item: &Item,
+    known: &mut Known<'_>,
     place: &mut Vec<u64>,
     told: &mut Vec<Told>,
 ) -> Result<(), AllocError>
-    requires { rules_in (marked_steps row.now) ≤ 65536 }
+    requires few { rules_in (marked_steps row.now) ≤ 65536 }
+    requires known { StartsWith (flags_of_item (preds_of (marked_steps row.now)) item.now)
+        known.old }
     ensures place { IfOk result (λ done. place.new.items ≡ place.old.items) }
+    ensures known { OnOk result (known.new
+        ≡ drop (length (flags_of_item (preds_of (marked_steps row.now)) item.now)) known.old) }
     ensures told { IfOk result (λ done. explanations_in told.new.items
         ≡ explanations_in told.old.items
         ++ told_of_child (marked_steps row.now) place.old.items number (element_of item.now)) }
@@ -176,7 +193,7 @@ fn explain_item(
         Item::Text(_) => Ok(()),
         Item::Child(child) => {
             place.push(number)?;
-            explain_element(alloc, row, child.get(), place, told)?;
+            explain_element(alloc, row, child.get(), known, place, told)?;
             place.pop();
             Ok(())
         }
@@ -188,14 +205,17 @@ fn explain_all(
     alloc: Global,
     row: &[Progress<'_>],
     doc: &Doc,
+    flags: &Flags,
     told: &mut Vec<Told>,
 ) -> Result<(), AllocError>
-    requires { rules_in (marked_steps row.now) ≤ 65536 }
+    requires few { rules_in (marked_steps row.now) ≤ 65536 }
+    requires known { flags.now ≡ flags_within (preds_of (marked_steps row.now)) doc.now.root }
     ensures { IfOk result (λ done. explanations_in told.new.items
         ≡ explanations_in told.old.items ++ told_from (marked_steps row.now) [] doc.now.root) }
 {
+    let mut known = Known::all(flags);
     let mut place = Vec::new(alloc);
-    explain_element(alloc, row, &doc.root, &mut place, told)?;
+    explain_element(alloc, row, &doc.root, &mut known, &mut place, told)?;
     Ok(())
 }
 
@@ -207,9 +227,10 @@ pub fn explain_tree(alloc: Global, doc: &Doc, rules: &[Rule]) -> Result<Vec<Told
         (λ told. explanations_in told.items ≡ explain doc.now rules.now) }
 {
     let row = all_begun(alloc, rules)?;
+    let flags = find_flags(alloc, row.as_slice(), &doc.root)?;
     let mut told = Vec::new(alloc);
-    tell_if_unselected(alloc, row.as_slice(), &doc.root, &mut told)?;
-    explain_all(alloc, row.as_slice(), doc, &mut told)?;
+    tell_if_unselected(alloc, row.as_slice(), &doc.root, &flags, &mut told)?;
+    explain_all(alloc, row.as_slice(), doc, &flags, &mut told)?;
     Ok(told)
 }
 
@@ -230,8 +251,9 @@ pub fn selected(alloc: Global, doc: &Doc, path: &Path) -> Result<Vec<Place>, NoM
 {
     let mut row = Vec::new(alloc);
     begin(&mut row, Sign::Grant, path.steps.as_slice())?;
+    let flags = find_flags(alloc, row.as_slice(), &doc.root)?;
     let mut told = Vec::new(alloc);
-    explain_all(alloc, row.as_slice(), doc, &mut told)?;
+    explain_all(alloc, row.as_slice(), doc, &flags, &mut told)?;
     let places = places_of(alloc, told)?;
     Ok(places)
 }

@@ -2,12 +2,11 @@
 //! view. Each is found by one walk over the tree.
 #![tactic(auto)]
 
-mod comparison;
 mod explain;
+mod known;
 mod lines;
 mod marks;
-mod predicate;
-mod scan;
+mod preds;
 mod shows;
 mod sign;
 mod view;

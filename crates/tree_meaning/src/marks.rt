@@ -1,12 +1,16 @@
 //! How far each rule has come on the way down to an element: its steps, each with the mark whether it leads there.
 
-ghost use Rattle.std.specs.Prelude.{◌≡◌, ◌&&◌, IfOk, map, ◌++◌, true, None};
+ghost use Rattle.std.specs.Prelude.{◌≡◌, ◌&&◌, IfOk, OnOk, map, length, drop, ◌++◌, true, Some, None};
 ghost use Rattle.std.specs.Option.{option_map_or, option_copied};
 ghost use Rattle.std.specs.List.{list_any, flat_map};
+ghost use Rattle.acl_model.specs.Select.{keeps};
+ghost use Rattle.predicate_walk.specs.Truths.{truths_at};
+ghost use Rattle.tree_meaning.specs.Known.{StartsWith, preds_of_step, preds_of};
 ghost use Rattle.tree_meaning.specs.Marks.{marked_step, marked_steps, begun_rule, begun_steps, leads_from, reaches, row_below, mark_below, selects_here, denies_here, sign_here};
 
-use crate::predicate::does_keep;
+use crate::known::Known;
 use acl_model::{Axis, Element, Rule, Sign, Step};
+use predicate_walk::does_pass;
 use std::alloc::{AllocError, Global};
 
 /// Whether the steps up to one lead to an element.
@@ -78,12 +82,38 @@ fn does_lead_from(axis: Axis, before: Mark) -> bool
     }
 }
 
-/// Whether the step leads to the element. It is looked at only where the step before led to it.
-fn does_reach(step: Option<&Step>, before: Mark, element: &Element) -> bool
-    ensures { result ≡ reaches (option_copied step.entry) before element.now }
+/// Whether the step keeps the element. The next flags say whether its predicates hold there.
+#[tactic(auto, using(crate::proofs::KnownLaws::kept))]
+fn does_keep(step: &Step, element: &Element, known: &Known<'_>) -> bool
+    requires { StartsWith (truths_at step.now.preds element.now) known.now }
+    ensures { result ≡ keeps step.now element.now }
+{
+    does_pass(&step.test, element.name.as_slice()) && known.are_set(step.preds.as_slice().len())
+}
+
+/// Whether the step leads to the element. The flags of its predicates are asked only where the step
+/// before led to it and the name passes, and are passed always.
+fn does_step_reach(step: &Step, before: Mark, element: &Element, known: &mut Known<'_>) -> bool
+    requires { StartsWith (truths_at step.now.preds element.now) known.old }
+    ensures reached { result ≡ reaches (Some step.now) before element.now }
+    ensures known { known.new
+        ≡ drop (length (truths_at step.now.preds element.now)) known.old }
+{
+    let reached = does_lead_from(step.axis, before) && does_keep(step, element, known);
+    known.pass(step.preds.as_slice().len());
+    reached
+}
+
+/// The same of a step of a row. No step leads to the virtual root, which has no flags.
+fn does_reach(step: Option<&Step>, before: Mark, element: &Element, known: &mut Known<'_>) -> bool
+    requires { StartsWith (truths_at (preds_of_step (option_copied step)) element.now) known.old }
+    ensures reached { result ≡ reaches (option_copied step.entry) before element.now }
+    ensures known { known.new
+        ≡ drop (length (truths_at (preds_of_step (option_copied step.entry)) element.now))
+        known.old }
 {
     match step {
-        Some(step) => does_lead_from(step.axis, before) && does_keep(step, element),
+        Some(step) => does_step_reach(step, before, element, known),
         None => false,
     }
 }
@@ -97,15 +127,20 @@ fn below(here: bool, mark: Mark) -> Mark
     }
 }
 
-/// All rules one element further down.
+/// All rules one element further down. The flags of their predicates at the element come next, and
+/// are passed.
 #[tactic(auto, using(crate::proofs::Lists::list_steps), unfolding(crate::specs::Marks::row_below))]
 pub fn all_below<'a>(
     alloc: Global,
     row: &[Progress<'a>],
     element: &Element,
+    known: &mut Known<'_>,
 ) -> Result<Vec<Progress<'a>>, AllocError>
-    ensures { IfOk result (λ moved.
+    requires { StartsWith (truths_at (preds_of (marked_steps row.now)) element.now) known.old }
+    ensures row { IfOk result (λ moved.
         marked_steps moved.items ≡ row_below element.now (marked_steps row.now)) }
+    ensures known { OnOk result (known.new
+        ≡ drop (length (truths_at (preds_of (marked_steps row.now)) element.now)) known.old) }
 {
     let mut moved = Vec::with_capacity(alloc, row.len())?;
     let mut before = Mark {
@@ -113,7 +148,7 @@ pub fn all_below<'a>(
         above: false,
     };
     for progress in row {
-        let here = does_reach(progress.step, before, element);
+        let here = does_reach(progress.step, before, element, known);
         before = progress.mark;
         moved.push(Progress {
             step: progress.step,

@@ -1,13 +1,16 @@
 //! How each element of a document stands in its view, found by one walk in document order. All the memory that writing
 //! the view takes is taken here.
 
-ghost use Rattle.std.specs.Prelude.{◌≡◌, ◌+◌, ◌<◌, ◌||◌, [], ◌++◌, IfOk, length, take, drop};
+ghost use Rattle.std.specs.Prelude.{◌≡◌, ◌+◌, ◌<◌, ◌||◌, [], ◌++◌, IfOk, OnOk, length, take, drop};
 ghost use Rattle.std.specs.List.{list_any, flat_map};
 ghost use Rattle.acl_model.specs.declared.rule.Sign.TheVariants.{Deny};
+ghost use Rattle.tree_meaning.specs.Known.{StartsWith, preds_of, flags_within, flags_of_item};
 ghost use Rattle.tree_meaning.specs.Marks.{marked_steps, begun_rule};
 ghost use Rattle.tree_meaning.specs.Shows.{is_shown, show_by_sign, with_show, shows_from, shows_of_item};
 
+use crate::known::Known;
 use crate::marks::{Progress, all_begun, all_below, sign_of};
+use crate::preds::find_flags;
 use acl_model::{Doc, Element, Item, Rule, Sign};
 use acl_outside::NoMemory;
 use std::alloc::{AllocError, Global};
@@ -65,25 +68,30 @@ fn settle(shows: &mut Vec<Show>, at: usize, show: Show)
 
 /// Adds how an element and those inside it stand in the view, and answers whether something of it does.
 #[cycle(shows)]
+#[tactic(auto, using(crate::proofs::KnownLaws::walk_steps))]
 fn find_shows(
     alloc: Global,
     row: &[Progress<'_>],
     above: Sign,
     element: &Element,
+    known: &mut Known<'_>,
     shows: &mut Vec<Show>,
 ) -> Result<bool, AllocError>
+    requires { StartsWith (flags_within (preds_of (marked_steps row.now)) element.now) known.old }
     ensures shows { IfOk result (λ shown. shows.new.items
         ≡ shows.old.items ++ shows_from element.now (marked_steps row.now) above) }
     ensures shown { IfOk result (λ shown. shown
         ≡ list_any is_shown (shows_from element.now (marked_steps row.now) above)) }
+    ensures known { OnOk result (known.new
+        ≡ drop (length (flags_within (preds_of (marked_steps row.now)) element.now)) known.old) }
 {
-    let row = all_below(alloc, row, element)?;
+    let row = all_below(alloc, row, element, known)?;
     let own = sign_of(row.as_slice(), above);
     let at = shows.len();
     shows.push(Show::Absent)?;
     let mut inside = false;
     for item in element.items.as_slice() {
-        let shown = find_shows_in_item(alloc, row.as_slice(), own, item, shows)?;
+        let shown = find_shows_in_item(alloc, row.as_slice(), own, item, known, shows)?;
         inside = either(inside, shown);
     }
     let show = show_of(own, inside);
@@ -92,23 +100,27 @@ fn find_shows(
 }
 
 #[cycle(shows)]
-#[tactic(auto, using(crate::proofs::ShowLaws::show_item_equations))]
+#[tactic(auto, using(crate::proofs::ShowLaws::show_item_equations, crate::proofs::KnownLaws::item_flags))]
 fn find_shows_in_item(
     alloc: Global,
     row: &[Progress<'_>],
     own: Sign,
     item: &Item,
+    known: &mut Known<'_>,
     shows: &mut Vec<Show>,
 ) -> Result<bool, AllocError>
+    requires { StartsWith (flags_of_item (preds_of (marked_steps row.now)) item.now) known.old }
     ensures shows { IfOk result (λ shown. shows.new.items
         ≡ shows.old.items ++ shows_of_item item.now (marked_steps row.now) own) }
     ensures shown { IfOk result (λ shown. shown
         ≡ list_any is_shown (shows_of_item item.now (marked_steps row.now) own)) }
+    ensures known { OnOk result (known.new
+        ≡ drop (length (flags_of_item (preds_of (marked_steps row.now)) item.now)) known.old) }
 {
     match item {
         Item::Text(_) => Ok(false),
         Item::Child(element) => {
-            let shown = find_shows(alloc, row, own, element.get(), shows)?;
+            let shown = find_shows(alloc, row, own, element.get(), known, shows)?;
             Ok(shown)
         }
     }
@@ -120,7 +132,16 @@ pub fn find_all_shows(alloc: Global, doc: &Doc, rules: &[Rule]) -> Result<Vec<Sh
         ≡ shows_from doc.now.root (flat_map begun_rule rules.now) Deny) }
 {
     let row = all_begun(alloc, rules)?;
+    let flags = find_flags(alloc, row.as_slice(), &doc.root)?;
+    let mut known = Known::all(&flags);
     let mut shows = Vec::new(alloc);
-    find_shows(alloc, row.as_slice(), Sign::Deny, &doc.root, &mut shows)?;
+    find_shows(
+        alloc,
+        row.as_slice(),
+        Sign::Deny,
+        &doc.root,
+        &mut known,
+        &mut shows,
+    )?;
     Ok(shows)
 }

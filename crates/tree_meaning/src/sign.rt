@@ -1,13 +1,18 @@
 //! The sign of one element, by a walk down to its place.
 
-ghost use Rattle.std.specs.Prelude.{◌≡◌, IfOk, option_copied, option_map};
+ghost use Rattle.std.specs.Prelude.{◌≡◌, IfOk, IfSome, drop, length, option_copied, option_map};
 ghost use Rattle.acl_model.specs.Places.{child, at, element_of};
 ghost use Rattle.acl_model.specs.Decide.{sign};
+ghost use Rattle.predicate_walk.specs.Truths.{preds_in};
+ghost use Rattle.tree_meaning.specs.Known.{StartsWith, preds_of, flags_within, flags_of_item, flags_of_items};
 ghost use Rattle.tree_meaning.specs.Marks.{marked_steps, sign_from, wanted_of, number_behind};
 
+use crate::known::Known;
 use crate::marks::{Progress, all_begun, all_below, sign_of};
+use crate::preds::{all_preds, find_flags_of};
 use acl_model::{Doc, Element, Item, Place, Rule, Sign};
 use acl_outside::NoMemory;
+use predicate_walk::PredRef;
 use std::alloc::{AllocError, Global};
 
 /// The element that an item is, if it is one.
@@ -42,15 +47,54 @@ fn number_left(item: &Item, number: u64) -> u64
     }
 }
 
-/// The element child of this number, from 1.
-fn child_at(items: &[Item], number: u64) -> Option<&Element>
-    ensures { option_copied result ≡ child items.now number }
+/// Moves on past the flags of an element and of each one inside it.
+#[cycle(past)]
+#[tactic(auto, using(crate::proofs::KnownLaws::pass_steps))]
+fn pass_element(preds: &[PredRef<'_>], element: &Element, known: &mut Known<'_>)
+    ensures { known.new
+        ≡ drop (length (flags_within (preds_in preds.now) element.now)) known.old }
+{
+    if preds.is_empty() {
+        return;
+    }
+    known.pass(preds.len());
+    for item in element.items.as_slice() {
+        pass_item(preds, item, known);
+    }
+}
+
+/// Moves on past the flags of the elements of an item.
+#[cycle(past)]
+#[tactic(auto, using(crate::proofs::KnownLaws::item_flags))]
+fn pass_item(preds: &[PredRef<'_>], item: &Item, known: &mut Known<'_>)
+    ensures { known.new ≡ drop (length (flags_of_item (preds_in preds.now) item.now)) known.old }
+{
+    match item {
+        Item::Text(_) => {}
+        Item::Child(element) => pass_element(preds, element.get(), known),
+    }
+}
+
+/// The element child of this number, from 1. The flags of the elements before it are passed.
+fn child_at<'a>(
+    items: &'a [Item],
+    number: u64,
+    preds: &[PredRef<'_>],
+    known: &mut Known<'_>,
+) -> Option<&'a Element>
+    requires { StartsWith (flags_of_items (preds_in preds.now) items.now) known.old }
+    ensures found { option_copied result ≡ child items.now number }
+    ensures known { IfSome (option_copied result)
+        (λ e. StartsWith (flags_within (preds_in preds.now) e) known.new) }
 {
     let mut left = number;
     for item in items {
         match wanted_in(item, left) {
             Some(element) => return Some(element),
-            None => left = number_left(item, left),
+            None => {
+                left = number_left(item, left);
+                pass_item(preds, item, known);
+            }
         }
     }
     None
@@ -63,21 +107,27 @@ fn sign_below(
     above: Sign,
     element: &Element,
     place: &[u64],
+    preds: &[PredRef<'_>],
+    known: &mut Known<'_>,
 ) -> Result<Option<Sign>, AllocError>
+    requires preds { preds_in preds.now ≡ preds_of (marked_steps row.now) }
+    requires known { StartsWith (flags_within (preds_in preds.now) element.now) known.old }
     ensures { IfOk result
         (λ found. found ≡ sign_from (marked_steps row.now) above element.now place.now) }
 {
-    let row = all_below(alloc, row, element)?;
+    let row = all_below(alloc, row, element, known)?;
     let own = sign_of(row.as_slice(), above);
     match place {
         [] => Ok(Some(own)),
-        [number, rest @ ..] => match child_at(element.items.as_slice(), *number) {
-            Some(child) => {
-                let found = sign_below(alloc, row.as_slice(), own, child, rest)?;
-                Ok(found)
+        [number, rest @ ..] => {
+            match child_at(element.items.as_slice(), *number, preds, known) {
+                Some(child) => {
+                    let found = sign_below(alloc, row.as_slice(), own, child, rest, preds, known)?;
+                    Ok(found)
+                }
+                None => Ok(None),
             }
-            None => Ok(None),
-        },
+        }
     }
 }
 
@@ -92,12 +142,16 @@ pub fn sign_at(
         ≡ option_map (λ e. sign doc.now rules.now place.now) (at doc.now place.now)) }
 {
     let row = all_begun(alloc, rules)?;
+    let preds = all_preds(alloc, row.as_slice())?;
+    let flags = find_flags_of(alloc, preds.as_slice(), &doc.root)?;
     let found = sign_below(
         alloc,
         row.as_slice(),
         Sign::Deny,
         &doc.root,
         place.as_slice(),
+        preds.as_slice(),
+        &mut Known::all(&flags),
     )?;
     Ok(found)
 }

@@ -1,12 +1,15 @@
 //! The authorised view of a document, by one walk over it that carries how far each rule has come.
 
-ghost use Rattle.std.specs.Prelude.{◌≡◌, [], ◌∷◌, IfOk};
+ghost use Rattle.std.specs.Prelude.{◌≡◌, [], ◌∷◌, IfOk, OnOk, drop, length};
 ghost use Rattle.std.specs.Option.{option_to_list};
 ghost use Rattle.acl_model.specs.View.{view, view_by_sign, with_text};
 ghost use Rattle.acl_model.proofs.ViewEquations.{is_filled};
+ghost use Rattle.tree_meaning.specs.Known.{StartsWith, preds_of, flags_within, flags_of_item};
 ghost use Rattle.tree_meaning.specs.Marks.{marked_steps, view_from, item_view};
 
+use crate::known::Known;
 use crate::marks::{Progress, all_begun, all_below, sign_of};
+use crate::preds::find_flags;
 use acl_model::{Bytes, Doc, Element, Item, Name, Rule, Sequence, Sign};
 use acl_outside::NoMemory;
 use sqlite_items::{Boxed, Items};
@@ -65,20 +68,24 @@ fn element_with(
 }
 
 #[cycle(view)]
-#[tactic(auto, using(crate::proofs::Lists::list_steps, crate::proofs::ViewLaws::view_from_is))]
+#[tactic(auto, using(crate::proofs::Lists::list_steps, crate::proofs::ViewLaws::view_from_is, crate::proofs::KnownLaws::walk_steps))]
 fn element_in_view(
     alloc: Global,
     row: &[Progress<'_>],
     above: Sign,
     element: &Element,
+    known: &mut Known<'_>,
 ) -> Result<Option<Element>, AllocError>
-    ensures { IfOk result (λ v. v ≡ view_from (marked_steps row.now) above element.now) }
+    requires { StartsWith (flags_within (preds_of (marked_steps row.now)) element.now) known.old }
+    ensures view { IfOk result (λ v. v ≡ view_from (marked_steps row.now) above element.now) }
+    ensures known { OnOk result (known.new
+        ≡ drop (length (flags_within (preds_of (marked_steps row.now)) element.now)) known.old) }
 {
-    let row = all_below(alloc, row, element)?;
+    let row = all_below(alloc, row, element, known)?;
     let own = sign_of(row.as_slice(), above);
     let mut items = Vec::new(alloc);
     for item in element.items.as_slice() {
-        if let Some(part) = item_in_view(alloc, row.as_slice(), own, item)? {
+        if let Some(part) = item_in_view(alloc, row.as_slice(), own, item, known)? {
             items.push(part)?;
         }
     }
@@ -86,19 +93,23 @@ fn element_in_view(
 }
 
 #[cycle(view)]
-#[tactic(auto, using(crate::proofs::ViewLaws::item_view_equations))]
+#[tactic(auto, using(crate::proofs::ViewLaws::item_view_equations, crate::proofs::KnownLaws::item_flags))]
 fn item_in_view(
     alloc: Global,
     row: &[Progress<'_>],
     own: Sign,
     item: &Item,
+    known: &mut Known<'_>,
 ) -> Result<Option<Item>, AllocError>
-    ensures { IfOk result
+    requires { StartsWith (flags_of_item (preds_of (marked_steps row.now)) item.now) known.old }
+    ensures view { IfOk result
         (λ v. option_to_list v ≡ item_view (marked_steps row.now) own item.now) }
+    ensures known { OnOk result (known.new
+        ≡ drop (length (flags_of_item (preds_of (marked_steps row.now)) item.now)) known.old) }
 {
     match item {
         Item::Text(bytes) => text_in_view(alloc, own, bytes),
-        Item::Child(element) => match element_in_view(alloc, row, own, element.get())? {
+        Item::Child(element) => match element_in_view(alloc, row, own, element.get(), known)? {
             Some(part) => Ok(Some(Item::Child(Boxed::new(alloc, part)?))),
             None => Ok(None),
         },
@@ -110,7 +121,9 @@ pub fn view_tree(alloc: Global, doc: &Doc, rules: &[Rule]) -> Result<Option<Doc>
     ensures exact { IfOk result (λ v. v ≡ view doc.now rules.now) }
 {
     let row = all_begun(alloc, rules)?;
-    match element_in_view(alloc, row.as_slice(), Sign::Deny, &doc.root)? {
+    let flags = find_flags(alloc, row.as_slice(), &doc.root)?;
+    let mut known = Known::all(&flags);
+    match element_in_view(alloc, row.as_slice(), Sign::Deny, &doc.root, &mut known)? {
         Some(root) => Ok(Some(Doc { root })),
         None => Ok(None),
     }

@@ -1,5 +1,6 @@
-use Rattle.std.proofs.Common.{◌≡◌, ◌≤◌, ◌+◌, ◌*◌, ◌++◌, drop}
+use Rattle.std.proofs.Common.{◌≡◌, ◌≤◌, ◌+◌, ◌*◌, ◌++◌, drop, length}
 use Rattle.acl_model.specs.Document.{height, height_of_item}
+use Rattle.tree_meaning.specs.Known.{preds_of, flags_within, flags_of_items}
 use Rattle.tree_meaning.specs.Marks.{marked_steps}
 use Rattle.tree_meaning.specs.Told.{explanations_in, told_of_items}
 use Rattle.tree_meaning.proofs.explain.+walk.Given as goal
@@ -17,3 +18,4 @@ invariant-explain_element-loop-item l =
     × (l.place.items ≡ l.initial.place.items)
     × (explanations_in l.told.items ++ told_of_items (marked_steps l.row.items) l.initial.place.items (drop l.item-index l.item-items) l.number
     ≡ explanations_in l.initial.told.items ++ told_of_items (marked_steps l.row.items) l.initial.place.items l.item-items 1)
+    × (l.known ≡ flags_of_items (preds_of (marked_steps l.row.items)) (drop l.item-index l.item-items) ++ drop (length (flags_within (preds_of (marked_steps l.fn.row)) l.element)) l.fn.known)

@@ -10,7 +10,7 @@ pub returns : goal.returns
 returns c = record {
   exact =
       c.in_ok-found.ensures
-      ∙ ap (λ row. sign_from row Deny c.args.doc.now.root c.as_slice-2.result.now) (ap marked_steps c.as_slice.ensures.value ∙ c.in_ok-row.ensures)
-      ∙ ap (sign_from (flat_map begun_rule c.args.rules.now) Deny c.args.doc.now.root) c.as_slice-2.ensures
+      ∙ ap (λ row. sign_from row Deny c.args.doc.now.root c.as_slice-4.result.now) (ap marked_steps c.as_slice-3.ensures.value ∙ c.in_ok-row.ensures)
+      ∙ ap (sign_from (flat_map begun_rule c.args.rules.now) Deny c.args.doc.now.root) c.as_slice-4.ensures
       ∙ sign_found c.args.doc.now c.args.rules.now c.args.place.now;
 }
