@@ -1,5 +1,5 @@
 -- Rows by names: what a map of them has after one more name, and that a name with no row has the row of all such names.
-use Rattle.std.proofs.Common.{◌≡◌, ℕ, Bool, true, false, ◌&&◌, ◌||◌, not, cond, nat_eq, Option, None, Some, is_some, Vec, List, [], ◌∷◌, ◌++◌, map, reverse, length, get_or, take, drop, refl, ap, subst, sym, ◌∙◌, ⊎_elim, ◌<◌, ◌≤◌, ◌+◌, arith}
+use Rattle.std.proofs.Common.{◌≡◌, ℕ, Bool, true, false, ◌&&◌, ◌||◌, not, cond, nat_eq, Option, None, Some, is_some, Vec, List, [], ◌∷◌, ◌++◌, map, reverse, length, get_or, take, refl, ap, subst, sym, ◌∙◌, ⊎_elim, ◌<◌, ◌≤◌, ◌+◌}
 use mathlib.Core.List.{reverse_aux}
 use Rattle.std.specs.Cmp.Lexicographic.{pointwise, bytes_decides}
 use Rattle.std.specs.HashMap.{HashMap, UpdatesBy}
@@ -20,14 +20,14 @@ use Rattle.predicate_walk.specs.declared.truths.PredRef.{PredRef}
 use Rattle.predicate_walk.specs.States.{passes_each, answers, tests_of, is_name_of, does_name, is_named_in}
 use Rattle.predicate_walk.specs.NameRows.{row_in, AreRows, AddsRows, AreAllRows}
 use Rattle.predicate_walk.specs.Truths.{preds_in}
-use Rattle.predicate_walk.proofs.Lists.{any_map}
 
 -- two lists of bytes that compare equal are equal
 same_bytes : (xs ys : List ℕ) → pointwise nat_eq xs ys ≡ true → xs ≡ ys
 same_bytes xs ys same = (bytes_decides xs ys).0 same
 
 -- where one entry changes, those that another test finds stay
-others_stay : {K X : Type 0} (eq : K → K → Bool) (test : K → Bool) (old new : List (K × X)) → KeepsOthers eq test old new
+others_stay : {K X : Type 0} (eq : K → K → Bool) (test : K → Bool) (old new : List (K × X))
+    → KeepsOthers eq test old new
     → (other : K → Bool) → IsKeyTest eq other → AreApart test other → lookup other new ≡ lookup other old
 unfolding KeepsOthers
 others_stay eq test old new keeps = keeps
@@ -46,7 +46,8 @@ row_in-put old new key row put name = ⊎_elim
     (cases_Bool (pointwise nat_eq key.items name))
 
 -- a name and the names that equal it
-same_row : {T : Type 0} (f : List ℕ → T) (name other : List ℕ) (old : T) → cond (pointwise nat_eq name other) (f name) old ≡ cond (pointwise nat_eq name other) (f other) old
+same_row : {T : Type 0} (f : List ℕ → T) (name other : List ℕ) (old : T)
+    → cond (pointwise nat_eq name other) (f name) old ≡ cond (pointwise nat_eq name other) (f other) old
 same_row f name other old = ⊎_elim
     (λ same. ap (λ n. cond (pointwise nat_eq name other) (f n) old) (same_bytes name other same))
     (λ apart. cond-false _ _ _ apart ∙ sym (cond-false _ _ _ apart))
@@ -66,7 +67,8 @@ adds_name preds old new key row name same is put = record {
 }
 
 -- A name that the map has keeps its row.
-pub has_name : {A H : Type 0} (preds : List Pred) (rows : HashMap (Vec ℕ A) (List Bool) H) (name : List ℕ) → AreRows preds rows → is_some (row_in rows name) ≡ true
+pub has_name : {A H : Type 0} (preds : List Pred) (rows : HashMap (Vec ℕ A) (List Bool) H) (name : List ℕ)
+    → AreRows preds rows → is_some (row_in rows name) ≡ true
     → AddsRows preds (λ n. pointwise nat_eq name n) rows rows
 has_name preds rows name are has = record {
   added = λ other. ⊎_elim
@@ -79,7 +81,8 @@ has_name preds rows name are has = record {
 }
 
 -- No name is added.
-pub adds_none : {A H : Type 0} (preds : List Pred) (rows : HashMap (Vec ℕ A) (List Bool) H) → AddsRows preds (λ n. false) rows rows
+pub adds_none : {A H : Type 0} (preds : List Pred) (rows : HashMap (Vec ℕ A) (List Bool) H)
+    → AddsRows preds (λ n. false) rows rows
 adds_none preds rows = record { added = λ name. refl }
 
 both : {T : Type 0} (f g : Bool) (row old : T) → cond g row (cond f row old) ≡ cond (f || g) row old
@@ -90,7 +93,8 @@ both false false row old = refl
 
 -- Names are added one after another.
 pub adds_more : {A H : Type 0} (preds : List Pred) (f g h : List ℕ → Bool) (old mid new : HashMap (Vec ℕ A) (List Bool) H)
-    → AddsRows preds f old mid → AddsRows preds g mid new → ((name : List ℕ) → h name ≡ (f name || g name)) → AddsRows preds h old new
+    → AddsRows preds f old mid → AddsRows preds g mid new → ((name : List ℕ) → h name ≡ (f name || g name))
+    → AddsRows preds h old new
 adds_more preds f g h old mid new first second or = record {
   added = λ name.
       second.added name
@@ -99,29 +103,37 @@ adds_more preds f g h old mid new first second or = record {
       ∙ ap (λ b. cond b (Some (tests_of name preds)) (row_in old name)) (sym (or name));
 }
 
-stays_right : {T : Type 0} (f : Bool) (row : T) (old : Option T) → old ≡ cond (is_some old) (Some row) None → cond f (Some row) old ≡ cond (is_some (cond f (Some row) old)) (Some row) None
+stays_right : {T : Type 0} (f : Bool) (row : T) (old : Option T) → old ≡ cond (is_some old) (Some row) None
+    → cond f (Some row) old ≡ cond (is_some (cond f (Some row) old)) (Some row) None
 stays_right true row old right = refl
 stays_right false row old right = right
 
 -- The rows stay right.
-pub rows_added : {A H : Type 0} (preds : List Pred) (f : List ℕ → Bool) (old new : HashMap (Vec ℕ A) (List Bool) H) → AreRows preds old → AddsRows preds f old new → AreRows preds new
+pub rows_added : {A H : Type 0} (preds : List Pred) (f : List ℕ → Bool) (old new : HashMap (Vec ℕ A) (List Bool) H)
+    → AreRows preds old → AddsRows preds f old new → AreRows preds new
 rows_added preds f old new are adds = record {
   right = λ name.
-      subst (λ r. r ≡ cond (is_some r) (Some (tests_of name preds)) None) (sym (adds.added name)) (stays_right (f name) (tests_of name preds) (row_in old name) (are.right name));
+      subst (λ r. r ≡ cond (is_some r) (Some (tests_of name preds)) None) (sym (adds.added name))
+      (stays_right (f name) (tests_of name preds) (row_in old name) (are.right name));
 }
 
 -- one more step of a way
 pub step_named : (name : List ℕ) (way : List PredStep) (i : ℕ) (s : PredStep) → i < length way → s ≡ get_or way i s
     → list_any (does_name name) (take (i + 1) way) ≡ (list_any (does_name name) (take i way) || does_name name s)
-step_named name way i s within is = list_any_more (does_name name) way i s within ∙ ap (λ x. list_any (does_name name) (take i way) || does_name name x) (sym is)
+step_named name way i s within is =
+    list_any_more (does_name name) way i s within
+    ∙ ap (λ x. list_any (does_name name) (take i way) || does_name name x) (sym is)
 
 -- an empty map has no row
-pub none_in : {A H : Type 0} (rows : HashMap (Vec ℕ A) (List Bool) H) (name : List ℕ) → rows.entries ≡ [] → row_in rows name ≡ None
+pub none_in : {A H : Type 0} (rows : HashMap (Vec ℕ A) (List Bool) H) (name : List ℕ) → rows.entries ≡ []
+    → row_in rows name ≡ None
 none_in rows name empty = ap (lookup (λ key. pointwise nat_eq name key.items)) empty
 
-pub none_are : {A H : Type 0} (preds : List Pred) (rows : HashMap (Vec ℕ A) (List Bool) H) → rows.entries ≡ [] → AreRows preds rows
+pub none_are : {A H : Type 0} (preds : List Pred) (rows : HashMap (Vec ℕ A) (List Bool) H) → rows.entries ≡ []
+    → AreRows preds rows
 none_are preds rows empty = record {
-  right = λ name. subst (λ r. r ≡ cond (is_some r) (Some (tests_of name preds)) None) (sym (none_in rows name empty)) refl;
+  right = λ name. subst (λ r. r ≡ cond (is_some r) (Some (tests_of name preds)) None) (sym (none_in rows name empty))
+      refl;
 }
 
 or_false : (b : Bool) → (b || false) ≡ b
@@ -130,25 +142,33 @@ or_false false = refl
 
 -- one more predicate
 pub ref_named : (name : List ℕ) (refs : List PredRef) (i : ℕ) (r : PredRef) → i < length refs → r ≡ get_or refs i r
-    → is_named_in (preds_in (take (i + 1) refs)) name ≡ (is_named_in (preds_in (take i refs)) name || list_any (does_name name) r.pred.now.way)
+    → is_named_in (preds_in (take (i + 1) refs)) name
+    ≡ (is_named_in (preds_in (take i refs)) name || list_any (does_name name) r.pred.now.way)
 ref_named name refs i r within is =
     ap (λ ps. is_named_in ps name) (map_more (λ x. x.pred.now) refs i r within)
-    ∙ list_any-append (λ pred. list_any (does_name name) pred.way) (preds_in (take i refs)) ((get_or refs i r).pred.now ∷ [])
-    ∙ ap (λ b. is_named_in (preds_in (take i refs)) name || b) (or_false (list_any (does_name name) (get_or refs i r).pred.now.way) ∙ ap (λ x. list_any (does_name name) x.pred.now.way) (sym is))
+    ∙ list_any-append (λ pred. list_any (does_name name) pred.way) (preds_in (take i refs))
+    ((get_or refs i r).pred.now ∷ [])
+    ∙ ap (λ b. is_named_in (preds_in (take i refs)) name || b)
+    (or_false (list_any (does_name name) (get_or refs i r).pred.now.way) ∙ ap (λ x. list_any (does_name name) x.pred.now.way) (sym is))
 
 -- all names of a way
 pub way_added : {A H : Type 0} (preds : List Pred) (way : List PredStep) (i : ℕ) (old new : HashMap (Vec ℕ A) (List Bool) H) → length way ≤ i
-    → AddsRows preds (λ n. list_any (does_name n) (take i way)) old new → AddsRows preds (λ n. list_any (does_name n) way) old new
-way_added preds way i old new past adds = subst (λ w. AddsRows preds (λ n. list_any (does_name n) w) old new) (take_all i way past) adds
+    → AddsRows preds (λ n. list_any (does_name n) (take i way)) old new
+    → AddsRows preds (λ n. list_any (does_name n) way) old new
+way_added preds way i old new past adds =
+    subst (λ w. AddsRows preds (λ n. list_any (does_name n) w) old new) (take_all i way past) adds
 
 -- all names
-pub all_added : {A H : Type 0} (refs : List PredRef) (i : ℕ) (old new : HashMap (Vec ℕ A) (List Bool) H) → length refs ≤ i → old.entries ≡ []
+pub all_added : {A H : Type 0} (refs : List PredRef) (i : ℕ) (old new : HashMap (Vec ℕ A) (List Bool) H)
+    → length refs ≤ i → old.entries ≡ []
     → AddsRows (preds_in refs) (λ n. is_named_in (preds_in (take i refs)) n) old new → AreAllRows (preds_in refs) new
 all_added refs i old new past empty adds = record {
   all = λ name.
       adds.added name
-      ∙ ap (λ b. cond b (Some (tests_of name (preds_in refs))) (row_in old name)) (ap (λ rs. is_named_in (preds_in rs) name) (take_all i refs past))
-      ∙ ap (λ o. cond (is_named_in (preds_in refs) name) (Some (tests_of name (preds_in refs))) o) (none_in old name empty);
+      ∙ ap (λ b. cond b (Some (tests_of name (preds_in refs))) (row_in old name))
+      (ap (λ rs. is_named_in (preds_in rs) name) (take_all i refs past))
+      ∙ ap (λ o. cond (is_named_in (preds_in refs) name) (Some (tests_of name (preds_in refs))) o)
+      (none_in old name empty);
 }
 
 -- ---- names that no step names
@@ -165,11 +185,13 @@ test_unnamed : (t : Test) (name : List ℕ) → is_name_of t name ≡ false → 
 test_unnamed Any name un = refl
 test_unnamed (Named wanted) name un = ap (λ b. b && not (is_dummy_name name)) (sym un)
 
-way_unnamed : (name : List ℕ) (way : List PredStep) (done other : List Bool) → list_any (does_name name) way ≡ false → done ≡ other
+way_unnamed : (name : List ℕ) (way : List PredStep) (done other : List Bool) → list_any (does_name name) way ≡ false
+    → done ≡ other
     → reverse_aux (map (λ s. passes_each s.test) way) done ≡ reverse_aux (map (λ s. passes s.test name) way) other
 way_unnamed name [] done other un same = same
 way_unnamed name (s ∷ way) done other un same =
-    way_unnamed name way (passes_each s.test ∷ done) (passes s.test name ∷ other) (or_right (is_name_of s.test name) (list_any (does_name name) way) un)
+    way_unnamed name way (passes_each s.test ∷ done) (passes s.test name ∷ other)
+    (or_right (is_name_of s.test name) (list_any (does_name name) way) un)
     (ap (λ b. b ∷ done) (test_unnamed s.test name (or_left (is_name_of s.test name) (list_any (does_name name) way) un)) ∙ ap (λ r. passes s.test name ∷ r) same)
 
 map_aux : (f : PredStep → Bool) (xs ys : List PredStep) → map f (reverse_aux xs ys) ≡ reverse_aux (map f xs) (map f ys)
@@ -177,16 +199,19 @@ map_aux f [] ys = refl
 map_aux f (x ∷ xs) ys = map_aux f xs (x ∷ ys)
 
 -- A name that no step names passes the steps that each name passes.
-unnamed : (preds : List Pred) (name : List ℕ) → is_named_in preds name ≡ false → answers (λ s. passes_each s.test) preds ≡ tests_of name preds
+unnamed : (preds : List Pred) (name : List ℕ) → is_named_in preds name ≡ false
+    → answers (λ s. passes_each s.test) preds ≡ tests_of name preds
 unfolding answers
 unnamed [] name un = refl
 unnamed (pred ∷ preds) name un =
     ap (λ r. false ∷ (r ++ answers (λ s. passes_each s.test) preds))
     (map_aux (λ s. passes_each s.test) pred.way [] ∙ way_unnamed name pred.way [] [] (or_left (list_any (does_name name) pred.way) (is_named_in preds name) un) refl ∙ sym (map_aux (λ s. passes s.test name) pred.way []))
-    ∙ ap (λ r. false ∷ (map (λ s. passes s.test name) (reverse pred.way) ++ r)) (unnamed preds name (or_right (list_any (does_name name) pred.way) (is_named_in preds name) un))
+    ∙ ap (λ r. false ∷ (map (λ s. passes s.test name) (reverse pred.way) ++ r))
+    (unnamed preds name (or_right (list_any (does_name name) pred.way) (is_named_in preds name) un))
 
 -- Each name's row is found.
-pub tests_found : {A H : Type 0} (preds : List Pred) (named : HashMap (Vec ℕ A) (List Bool) H) (others : List Bool) → AreAllRows preds named → others ≡ answers (λ s. passes_each s.test) preds
+pub tests_found : {A H : Type 0} (preds : List Pred) (named : HashMap (Vec ℕ A) (List Bool) H) (others : List Bool)
+    → AreAllRows preds named → others ≡ answers (λ s. passes_each s.test) preds
     → (name : List ℕ) → unwrap_or (row_in named name) others ≡ tests_of name preds
 tests_found preds named others all is name = ⊎_elim
     (λ in_it. ap (λ r. unwrap_or r others) (all.all name ∙ cond-true _ _ _ in_it))

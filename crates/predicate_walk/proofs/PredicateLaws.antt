@@ -1,18 +1,12 @@
 -- A walk that tests each target where it is met holds where acl_model's predicate does.
-use Rattle.std.proofs.Common.{◌≡◌, ℕ, ◌≤◌, Bool, true, false, ◌&&◌, ◌||◌, Option, Some, None, List, [], ◌∷◌, map, length, get_or, drop, append-nil, cond, arith, refl, ap, sym, ◌∙◌}
+use Rattle.std.proofs.Common.{◌≡◌, ℕ, Bool, true, false, ◌&&◌, ◌||◌, Option, Some, None, List, [], ◌∷◌, map, append-nil, cond, refl, ap, sym, ◌∙◌}
 use Rattle.std.proofs.lemmas.List.Folds.{list_any-append}
-use Rattle.std.specs.List.{list_any, filter, flat_map, cons_option}
-use Rattle.std.specs.Option.{option_map_or}
+use Rattle.std.specs.List.{list_any, filter, flat_map}
 use Rattle.acl_model.specs.NameTests.{passes}
-use Rattle.acl_model.specs.Places.{element_of, children}
 use Rattle.acl_model.specs.Values.{string_value, values_at, gives_value, attribute_value, attribute_values}
 use Rattle.acl_model.specs.Comparisons.{satisfies}
-use Rattle.acl_model.specs.Predicates.{descendants, below_item, on_axis, targets, is_enough, holds}
-use Rattle.acl_model.proofs.ValueEquations.{below_item-Text, below_item-Child, descendants_is}
-use Rattle.acl_model.proofs.ViewEquations.{element_of-Text, element_of-Child}
+use Rattle.acl_model.specs.Predicates.{on_axis, targets, is_enough, holds}
 use Rattle.acl_model.specs.declared.document.Element.{Element}
-use Rattle.acl_model.specs.declared.document.Item.{Item}
-use Rattle.acl_model.specs.declared.document.Item.TheVariants.{Text, Child}
 use Rattle.acl_model.specs.declared.path.Pred.{Pred}
 use Rattle.acl_model.specs.declared.path.PredStep.{PredStep}
 use Rattle.acl_model.specs.declared.path.Cmp.{Cmp}
@@ -25,14 +19,17 @@ or_false false = refl
 
 -- ---- one target
 
-any_attribute : (name : List ℕ) (cmp : Option Cmp) (raws : List (List ℕ)) → list_any (is_enough cmp) (map attribute_value (filter (gives_value name) raws)) ≡ list_any (attribute_is_enough name cmp) raws
+any_attribute : (name : List ℕ) (cmp : Option Cmp) (raws : List (List ℕ))
+    → list_any (is_enough cmp) (map attribute_value (filter (gives_value name) raws))
+    ≡ list_any (attribute_is_enough name cmp) raws
 any_attribute name cmp [] = refl
 any_attribute name cmp (raw ∷ raws) =
     elim (gives_value name raw) as (λ t. list_any (is_enough cmp) (map attribute_value (cond t (raw ∷ filter (gives_value name) raws) (filter (gives_value name) raws))) ≡ ((t && is_enough cmp (attribute_value raw)) || list_any (attribute_is_enough name cmp) raws))
     [ true ↦ ap (λ b. is_enough cmp (attribute_value raw) || b) (any_attribute name cmp raws) | false ↦ any_attribute name cmp raws ]
 
 -- With the name of an attribute each attribute is looked at.
-pub enough_attributes : (pred : Pred) (name : List ℕ) (e : Element) → pred.attribute ≡ Some name → list_any (attribute_is_enough name pred.cmp) e.attributes ≡ is_enough_at pred e
+pub enough_attributes : (pred : Pred) (name : List ℕ) (e : Element) → pred.attribute ≡ Some name
+    → list_any (attribute_is_enough name pred.cmp) e.attributes ≡ is_enough_at pred e
 unfolding is_enough_at
 enough_attributes pred name e is =
     sym (any_attribute name pred.cmp e.attributes)
@@ -40,7 +37,8 @@ enough_attributes pred name e is =
     ∙ ap (λ o. list_any (is_enough pred.cmp) (values_at o (e ∷ []))) (sym is)
 
 -- Without one the string-value is.
-pub enough_text : (pred : Pred) (cmp : Cmp) (e : Element) → pred.attribute ≡ None → pred.cmp ≡ Some cmp → satisfies cmp.op cmp.operand (string_value e) ≡ is_enough_at pred e
+pub enough_text : (pred : Pred) (cmp : Cmp) (e : Element) → pred.attribute ≡ None → pred.cmp ≡ Some cmp
+    → satisfies cmp.op cmp.operand (string_value e) ≡ is_enough_at pred e
 unfolding is_enough_at
 enough_text pred cmp e none is =
     sym (or_false (satisfies cmp.op cmp.operand (string_value e)))
@@ -56,27 +54,10 @@ enough_there pred e none is =
 
 pub ruleset enough_laws = (enough_attributes, enough_text, enough_there)
 
--- ---- loops over items
-
-any_children : (test : Element → Bool) (items : List Item) → list_any test (children items) ≡ list_any (λ item. option_map_or test (element_of item) false) items
-any_children test [] = refl
-any_children test (item ∷ items) =
-    elim (element_of item) as (λ o. list_any test (cons_option o (children items)) ≡ (option_map_or test o false || list_any (λ i. option_map_or test (element_of i) false) items))
-    [ None ↦ any_children test items | Some e ↦ ap (λ b. test e || b) (any_children test items) ]
-
-any_items : (test : Element → Bool) (items : List Item) → list_any test (flat_map below_item items) ≡ list_any (λ item. list_any test (below_item item)) items
-any_items test [] = refl
-any_items test (item ∷ items) = list_any-append test (below_item item) (flat_map below_item items) ∙ ap (λ b. list_any test (below_item item) || b) (any_items test items)
-
-pub children_by_items : (test : Element → Bool) (e : Element) → list_any (λ item. option_map_or test (element_of item) false) e.items ≡ list_any test (children e.items)
-children_by_items test e = sym (any_children test e.items)
-
-pub descendants_by_items : (test : Element → Bool) (e : Element) → list_any (λ item. list_any test (below_item item)) e.items ≡ list_any test (descendants e)
-descendants_by_items test e = sym (any_items test e.items) ∙ ap (list_any test) (sym (descendants_is e))
-
 -- ---- all targets
 
-any_filter : (t : Element → Bool) (way : List PredStep) (test : Element → Bool) (es : List Element) → ((e : Element) → list_any test (targets way e) ≡ is_met test way e)
+any_filter : (t : Element → Bool) (way : List PredStep) (test : Element → Bool) (es : List Element)
+    → ((e : Element) → list_any test (targets way e) ≡ is_met test way e)
     → list_any test (flat_map (targets way) (filter t es)) ≡ list_any (λ e. t e && is_met test way e) es
 any_filter t way test [] same = refl
 any_filter t way test (e ∷ es) same =
@@ -85,19 +66,24 @@ any_filter t way test (e ∷ es) same =
       | false ↦ any_filter t way test es same
     ]
 
-any_target : (test : Element → Bool) (way : List PredStep) (e : Element) → list_any test (targets way e) ≡ is_met test way e
+any_target : (test : Element → Bool) (way : List PredStep) (e : Element) → list_any test (targets way e)
+    ≡ is_met test way e
 any_target test [] e = or_false (test e)
 any_target test (s ∷ way) e = any_filter (λ c. passes s.test c.name) way test (on_axis s.axis e) (any_target test way)
 
 -- the values at many targets, target by target
-any_value : (p : List ℕ → Bool) (attribute : Option (List ℕ)) (es : List Element) → list_any p (values_at attribute es) ≡ list_any (λ e. list_any p (values_at attribute (e ∷ []))) es
+any_value : (p : List ℕ → Bool) (attribute : Option (List ℕ)) (es : List Element)
+    → list_any p (values_at attribute es) ≡ list_any (λ e. list_any p (values_at attribute (e ∷ []))) es
 any_value p None [] = refl
-any_value p None (e ∷ es) = ap (λ b. p (string_value e) || b) (any_value p None es) ∙ ap (λ b. b || list_any (λ x. list_any p (values_at None (x ∷ []))) es) (sym (or_false (p (string_value e))))
+any_value p None (e ∷ es) =
+    ap (λ b. p (string_value e) || b) (any_value p None es)
+    ∙ ap (λ b. b || list_any (λ x. list_any p (values_at None (x ∷ []))) es) (sym (or_false (p (string_value e))))
 any_value p (Some name) [] = refl
 any_value p (Some name) (e ∷ es) =
     list_any-append p (attribute_values name e) (flat_map (attribute_values name) es)
     ∙ ap (λ b. list_any p (attribute_values name e) || b) (any_value p (Some name) es)
-    ∙ ap (λ vs. list_any p vs || list_any (λ x. list_any p (values_at (Some name) (x ∷ []))) es) (sym (append-nil (attribute_values name e)))
+    ∙ ap (λ vs. list_any p vs || list_any (λ x. list_any p (values_at (Some name) (x ∷ []))) es)
+    (sym (append-nil (attribute_values name e)))
 
 -- A predicate holds where the walk meets a target that is enough.
 pub held_where_met : (pred : Pred) (e : Element) → is_met (is_enough_at pred) pred.way e ≡ holds pred e
@@ -105,6 +91,3 @@ unfolding holds is_enough_at
 held_where_met pred e =
     sym (any_target (λ x. list_any (is_enough pred.cmp) (values_at pred.attribute (x ∷ []))) pred.way e)
     ∙ sym (any_value (is_enough pred.cmp) pred.attribute (targets pred.way e))
-
-pub ruleset held = (held_where_met)
-

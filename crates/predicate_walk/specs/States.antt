@@ -1,6 +1,7 @@
--- The states of predicates: what is known of an element once all inside it was read. A predicate with a way of n steps has
--- n + 1 states: that the element itself is a target which is enough, and that the last k steps of the way lead from it to
--- such a target. This project's own; that the last state of a predicate is whether it holds is a law.
+-- The states of predicates: what is known of an element once all inside it was read. A predicate
+-- with a way of n steps has n + 1 states: that the element itself is a target which is enough, and
+-- that the last k steps of the way, for k from 1 to n, lead from it to such a target. This project's
+-- own; that the last state of a predicate is whether it holds is a law.
 use Rattle.std.specs.Prelude.{ℕ, ◌+◌, Bool, true, false, ◌&&◌, nat_eq, List, [], ◌∷◌, ◌++◌, map, reverse, length, get_or, take, drop}
 use Rattle.std.specs.List.{list_any, flat_map, fold}
 use Rattle.std.specs.Option.{option_map_or}
@@ -19,24 +20,27 @@ use Rattle.acl_model.specs.declared.path.Pred.{Pred}
 use Rattle.acl_model.specs.declared.path.PredStep.{PredStep}
 use Rattle.predicate_walk.specs.Met.{is_enough_at}
 use Rattle.predicate_walk.specs.declared.question.Question.{Question}
-use Rattle.predicate_walk.specs.declared.question.Question.TheVariants.{IsDeep, PassesName, PassesEachName, Nothing}
+use Rattle.predicate_walk.specs.declared.question.Question.TheVariants.{IsDeep, PassesName, PassesEachName}
 
 -- ---- the states at an element
 
--- A state by a step is set where an element on the step's axis passes the step and has the state before.
+-- A state by a step is set where an element on the step's axis passes the step and has the state
+-- before.
 abbrev pub is_set_by : PredStep → (Element → Bool) → Element → Bool
 is_set_by s before e = list_any (λ c. passes s.test c.name && before c) (on_axis s.axis e)
 
 -- the states by steps, one after another; `before` is the state before the first of them
 abbrev pub set_by_steps : (Element → Bool) → List PredStep → Element → List Bool
 set_by_steps before [] e = []
-set_by_steps before (s ∷ steps) e = is_set_by s before e ∷ set_by_steps (is_set_by s before) steps e
+set_by_steps before (s ∷ steps) e =
+    is_set_by s before e ∷ set_by_steps (is_set_by s before) steps e
 
 -- the states by the steps of a predicate's way, the last step first
 abbrev pub later_states : Pred → Element → List Bool
 later_states pred e = set_by_steps (is_enough_at pred) (reverse pred.way) e
 
--- the states of a predicate at an element: whether the element is a target that is enough, and then those by steps
+-- the states of a predicate at an element: whether the element is a target that is enough, and then
+-- those by steps
 abbrev pub states_at : Element → Pred → List Bool
 states_at e pred = is_enough_at pred e ∷ later_states pred e
 
@@ -60,7 +64,8 @@ number_of_states (pred ∷ preds) = length pred.way + 1 + number_of_states preds
 -- the last state of each predicate, in a row of all states
 abbrev pub last_states : List Pred → List Bool → List Bool
 last_states [] row = []
-last_states (pred ∷ preds) row = get_or row (length pred.way) false ∷ last_states preds (drop (length pred.way + 1) row)
+last_states (pred ∷ preds) row =
+    get_or row (length pred.way) false ∷ last_states preds (drop (length pred.way + 1) row)
 
 -- flags with these values from a place on
 abbrev pub patched : ℕ → List Bool → List Bool → List Bool
@@ -78,12 +83,11 @@ abbrev pub passes_each : Test → Bool
 passes_each Any = true
 passes_each (Named name) = false
 
--- Whether a step is as asked: it goes to all descendants, it passes a name, it passes each name; no step is nothing.
+-- Whether a step is as asked: it goes to all descendants, it passes a name, or it passes each name.
 abbrev pub does_answer : Question → PredStep → Bool
 does_answer IsDeep s = is_descendant s.axis
 does_answer (PassesName name) s = passes s.test name.now
 does_answer PassesEachName s = passes_each s.test
-does_answer Nothing s = false
 
 -- the same of the states of a predicate; the first has no step
 abbrev pub answers_of : (PredStep → Bool) → Pred → List Bool

@@ -1,4 +1,5 @@
--- Which of many predicates hold at which elements. Where one holds is said by acl_model (XPath 1.0, 2.4).
+-- Which of many predicates hold at which elements. Where one holds is said by acl_model (XPath 1.0,
+-- 2.4).
 use Rattle.std.specs.Prelude.{Bool, List, map}
 use Rattle.std.specs.List.{flat_map}
 use Rattle.acl_model.specs.Predicates.{holds}

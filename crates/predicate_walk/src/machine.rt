@@ -40,7 +40,8 @@ impl<'a> Model for Machine<'a> {
 
     ghost view = { λ m. preds_in m.preds.now };
 
-    ghost invariant = { λ m. IsMachine (preds_in m.preds.now) m.deep m.named m.others m.needs_texts };
+    ghost invariant = { λ m.
+        IsMachine (preds_in m.preds.now) m.deep m.named m.others m.needs_texts };
 }
 
 /// Whether the predicate compares the string-values of elements.

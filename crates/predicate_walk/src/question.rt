@@ -16,8 +16,6 @@ pub enum Question<'a> {
     PassesName(&'a [u8]),
     /// Whether it passes each name.
     PassesEachName,
-    /// What is so of none.
-    Nothing,
 }
 
 fn is_a_dummy(name: &[u8]) -> bool
@@ -65,6 +63,5 @@ pub fn does_answer(question: Question<'_>, step: &PredStep) -> bool
         Question::IsDeep => is_deep(step.axis),
         Question::PassesName(name) => does_pass(&step.test, name),
         Question::PassesEachName => does_pass_each(&step.test),
-        Question::Nothing => false,
     }
 }

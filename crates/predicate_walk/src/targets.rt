@@ -1,4 +1,5 @@
-//! What is found at the end of an element: at which predicates it is a target that is enough, and which of them hold.
+//! What is found at the end of an element: for which predicates it is a target that is enough, and
+//! which predicates hold there.
 
 ghost use Rattle.std.specs.Prelude.{◌≡◌, ◌+◌, ◌≤◌, true, false, length, replicate, take, drop};
 ghost use Rattle.acl_model.specs.Values.{string_value};
@@ -13,7 +14,8 @@ use acl_bits::Flags;
 use acl_model::{Element, Pred};
 use value_scan::{does_satisfy, is_any_attribute_enough};
 
-/// Whether a value of the element is enough; `value` is its string-value, where the predicate compares that.
+/// Whether a value of the element is enough. `value` is its string-value, where the predicate
+/// compares that.
 #[tactic(auto, using(crate::proofs::PredicateLaws::enough_laws))]
 fn is_target_enough(pred: &Pred, element: &Element, value: &[u8]) -> bool
     requires { compares_texts pred.now ≡ true → value.now ≡ string_value element.now }
@@ -34,7 +36,8 @@ fn is_target_enough(pred: &Pred, element: &Element, value: &[u8]) -> bool
 
 /// Sets the first state of each predicate for which the element is a target that is enough.
 pub fn put_targets(preds: &[PredRef<'_>], element: &Element, value: &[u8], row: &mut Flags)
-    requires value { value.now ≡ kept (needs_texts (preds_in preds.now)) (string_value element.now) }
+    requires value { value.now
+        ≡ kept (needs_texts (preds_in preds.now)) (string_value element.now) }
     requires inside { row.old ≡ inner_row_at (preds_in preds.now) element.now }
     ensures { row.new ≡ row_at (preds_in preds.now) element.now }
 {
@@ -47,11 +50,12 @@ pub fn put_targets(preds: &[PredRef<'_>], element: &Element, value: &[u8], row: 
     }
 }
 
-/// Sets the flag of each predicate whose last state is set. The flags of the predicates begin at this place.
+/// Sets the flag of each predicate whose last state is set. The predicates' flags begin at `at`.
 pub fn put_truths(preds: &[PredRef<'_>], row: &Flags, flags: &mut Flags, at: usize)
     requires row { length row.now ≡ number_of_states (preds_in preds.now) }
     requires room { at + length preds.now ≤ length flags.old }
-    requires clear { take (length preds.now) (drop at flags.old) ≡ replicate (length preds.now) false }
+    requires clear { take (length preds.now) (drop at flags.old)
+        ≡ replicate (length preds.now) false }
     ensures { flags.new ≡ patched at (last_states (preds_in preds.now) row.now) flags.old }
 {
     // All places in the row and in the flags fit a usize.

@@ -17,13 +17,9 @@ pub struct PredRef<'a> {
     pub pred: &'a Pred,
 }
 
-/// Which of these predicates hold at an element and at each element inside it: for each element, in document order, a
-/// flag for each predicate, in their order.
-pub fn find_truths(
-    alloc: Global,
-    preds: &[PredRef<'_>],
-    root: &Element,
-) -> Result<Flags, NoMemory>
+/// Which of these predicates hold at an element and at each element inside it: for each element, in
+/// document order, a flag for each predicate, in their order.
+pub fn find_truths(alloc: Global, preds: &[PredRef<'_>], root: &Element) -> Result<Flags, NoMemory>
     ensures { IfOk result
         (λ flags. flags ≡ truths (preds_in preds.now) (root.now ∷ descendants root.now)) }
 {

@@ -1,4 +1,5 @@
-//! The walk: each element's row of states is made from those of its children, from the innermost element out.
+//! The walk: each element's row of states is made from the rows of its children, from the innermost
+//! element out.
 
 ghost use Rattle.std.specs.Prelude.{◌≡◌, ◌∷◌, ◌++◌, IfOk, OnOk, length};
 ghost use Rattle.acl_model.specs.Predicates.{descendants, below_item};
@@ -13,7 +14,8 @@ use acl_bits::Flags;
 use acl_model::{Element, Item};
 use std::alloc::{AllocError, Global};
 
-/// Adds the texts of an element, and the flags of the element and of those inside it. Gives the element's row.
+/// Adds the texts of an element, and the flags of the element and of those inside it. Returns the
+/// element's row.
 #[cycle(walk)]
 pub fn walk_element(
     alloc: Global,
@@ -40,7 +42,8 @@ pub fn walk_element(
     Ok(row)
 }
 
-/// Adds the texts of an item and the flags of the elements in it. Takes it into the row of the element around it.
+/// Adds the texts of an item and the flags of the elements in it. Takes it into the row of the
+/// element around it.
 #[cycle(walk)]
 #[tactic(auto, using(crate::proofs::WalkLaws::item_equations))]
 fn walk_item(

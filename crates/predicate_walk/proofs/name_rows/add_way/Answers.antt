@@ -10,12 +10,16 @@ loop-step-init c = record { are = c.requires; adds = adds_none (preds_in c.args.
 
 pub loop-step-preserved : goal.loop-step-preserved
 loop-step-preserved c = record {
-  are = rows_added (preds_in c.args.preds.now) (λ n. does_name n c.step-item.result) c.loop-step.rows c.add_step.new.rows c.loop-step.invariant.are c.in_ok-add_step.ensures;
+  are = rows_added (preds_in c.args.preds.now) (λ n. does_name n c.step-item.result) c.loop-step.rows
+      c.add_step.new.rows c.loop-step.invariant.are c.in_ok-add_step.ensures;
   adds =
-      adds_more (preds_in c.args.preds.now) (λ n. list_any (does_name n) (take c.loop-step.step-index c.args.way.now)) (λ n. does_name n c.step-item.result) _ c.args.rows.now c.loop-step.rows c.add_step.new.rows
+      adds_more (preds_in c.args.preds.now) (λ n. list_any (does_name n) (take c.loop-step.step-index c.args.way.now))
+      (λ n. does_name n c.step-item.result) _ c.args.rows.now c.loop-step.rows c.add_step.new.rows
       c.loop-step.invariant.adds c.in_ok-add_step.ensures
       (λ name. step_named name c.args.way.now c.loop-step.step-index c.step-item.result c.loop-step-test.true c.step-item.is);
 }
 
 pub returns : goal.returns
-returns c = way_added (preds_in c.args.preds.now) c.args.way.now c.loop-step.step-index c.args.rows.now c.loop-step.rows c.loop-step-test.false c.loop-step.invariant.adds
+returns c =
+    way_added (preds_in c.args.preds.now) c.args.way.now c.loop-step.step-index c.args.rows.now c.loop-step.rows
+    c.loop-step-test.false c.loop-step.invariant.adds

@@ -10,9 +10,11 @@ loop-r-init c = record { are = none_are (preds_in c.args.preds.now) c.new-rows.r
 
 pub loop-r-preserved : goal.loop-r-preserved
 loop-r-preserved c = record {
-  are = rows_added (preds_in c.args.preds.now) _ c.loop-r.rows c.add_way.new.rows c.loop-r.invariant.are c.in_ok-add_way.ensures;
+  are = rows_added (preds_in c.args.preds.now) _ c.loop-r.rows c.add_way.new.rows c.loop-r.invariant.are
+      c.in_ok-add_way.ensures;
   adds =
-      adds_more (preds_in c.args.preds.now) (λ n. is_named_in (preds_in (take c.loop-r.r-index c.args.preds.now)) n) (λ n. list_any (does_name n) c.as_slice.result.now) _ c.new-rows.result c.loop-r.rows c.add_way.new.rows
+      adds_more (preds_in c.args.preds.now) (λ n. is_named_in (preds_in (take c.loop-r.r-index c.args.preds.now)) n)
+      (λ n. list_any (does_name n) c.as_slice.result.now) _ c.new-rows.result c.loop-r.rows c.add_way.new.rows
       c.loop-r.invariant.adds c.in_ok-add_way.ensures
       (λ name.
       ref_named name c.args.preds.now c.loop-r.r-index c.r-item.result c.loop-r-test.true c.r-item.is
@@ -20,4 +22,6 @@ loop-r-preserved c = record {
 }
 
 pub returns : goal.returns
-returns c = all_added c.args.preds.now c.loop-r.r-index c.new-rows.result c.loop-r.rows c.loop-r-test.false c.new-rows.ensures.empty c.loop-r.invariant.adds
+returns c =
+    all_added c.args.preds.now c.loop-r.r-index c.new-rows.result c.loop-r.rows c.loop-r-test.false
+    c.new-rows.ensures.empty c.loop-r.invariant.adds

@@ -4,4 +4,6 @@ use Rattle.predicate_walk.specs.Truths.{preds_in}
 use Rattle.predicate_walk.proofs.rows.find_answers.Given as goal
 
 abbrev pub invariant-loop-r : goal.invariant-loop-r
-invariant-loop-r l = l.flags ++ answers (does_answer l.question) (preds_in (drop l.r-index l.preds)) ≡ answers (does_answer l.question) (preds_in l.preds)
+invariant-loop-r l =
+    l.flags ++ answers (does_answer l.question) (preds_in (drop l.r-index l.preds)) ≡ answers (does_answer l.question)
+    (preds_in l.preds)

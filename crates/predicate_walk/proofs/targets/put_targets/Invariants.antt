@@ -8,5 +8,6 @@ invariant-loop-r l = record {
   long : l.start + number_of_states (preds_in (drop l.r-index l.preds)) ≡ length l.row;
   same : length l.row ≡ length l.initial.row;
   left : drop l.start l.row ≡ inner_row_at (preds_in (drop l.r-index l.preds)) l.element;
-  made : take l.start l.row ++ row_at (preds_in (drop l.r-index l.preds)) l.element ≡ row_at (preds_in l.preds) l.element;
+  made : take l.start l.row ++ row_at (preds_in (drop l.r-index l.preds)) l.element
+      ≡ row_at (preds_in l.preds) l.element;
 }

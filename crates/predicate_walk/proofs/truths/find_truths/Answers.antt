@@ -1,7 +1,7 @@
-use Rattle.std.proofs.Common.{◌≡◌, ◌∙◌, ◌∷◌, ◌++◌, [], ap, sym, length, arith}
+use Rattle.std.proofs.Common.{◌≡◌, ◌∙◌, ◌∷◌, ◌++◌, ap, length, arith}
 use Rattle.std.proofs.lemmas.Bool.Decides.{nat_tests}
 use Rattle.acl_model.specs.Predicates.{descendants}
-use Rattle.predicate_walk.specs.Truths.{truths, preds_in}
+use Rattle.predicate_walk.specs.Truths.{truths}
 use Rattle.predicate_walk.proofs.WalkLaws.{none_asked}
 use Rattle.predicate_walk.proofs.truths.find_truths.Goals as goal
 
