@@ -5,15 +5,13 @@
 ghost use Rattle.std.specs.Prelude.{◌≡◌, ◌≤◌, ◌+◌, [], Some, None, IsTrue, IfSome, IfErr, OnOk, length};
 ghost use Rattle.std.specs.Bool.{OnTrue};
 ghost use Rattle.std.specs.Io.KnownBytes.{IsAtEnd};
-ghost use Rattle.acl_model.specs.Explain.{explain_text, explanation_lines};
+ghost use Rattle.acl_model.specs.Explain.{explain_text};
 ghost use Rattle.acl_model.specs.Text.{text_of_view};
 ghost use Rattle.acl_model.specs.View as model;
 ghost use Rattle.acl_outside.specs.Outside.{AreAllSettled};
-ghost use Rattle.acl_outside.specs.Writing.{Writes};
 ghost use Rattle.esis_lines.specs.Answers.{TakesUpTo};
 ghost use Rattle.licence.specs.BodyText.{most_rules};
 ghost use Rattle.tree_meaning.specs.Shows.{WritesView};
-ghost use Rattle.tree_meaning.specs.Told.{explanations_in};
 ghost use Rattle.acl_outcome.specs.Ends.{Object, end_of, is_fault_of};
 ghost use Rattle.acl_words.specs.Command.{Command};
 ghost use Rattle.acl_run.specs.Objects.{LeavesSource, LeavesSink};
@@ -29,11 +27,11 @@ ghost use Rattle.acl_run.specs.Writing.{EndsWriting};
 use crate::readers::{read_document, read_query, read_rules};
 use acl_model::{Bytes, Doc, Path, Rule, Sign};
 use acl_outcome::Outcome;
-use acl_outside::{Failed, Sink, Source, finish};
+use acl_outside::{Sink, Source, finish};
 use acl_words::Shown;
 use licence::Licence;
 use std::alloc::Global;
-use tree_meaning::{Told, WriteViewFault, explain_tree, view_tree, write_explanation, write_view};
+use tree_meaning::{WriteViewFault, view_tree, write_explanation_of, write_view};
 
 /// What is wanted of a document.
 #[derive(Debug, Drop)]
@@ -84,16 +82,21 @@ fn write_settled_view<W: Sink>(
 
 /// Writes an explanation, and sees that the sink holds none of it back.
 fn write_settled_explanation<W: Sink>(
-    told: &[Told],
+    alloc: Global,
+    doc: &Doc,
     rules: &[Rule],
     out: &mut W,
-) -> Result<(), Failed>
-    ensures written { Writes W.written W.missed W.settled W.faults result out.old out.new
-        (explanation_lines rules.now (explanations_in told.now)) }
+) -> Result<(), WriteViewFault>
+    requires { length rules.now ≤ most_rules }
+    ensures written { WritesView W.written W.missed W.settled W.faults result out.old out.new
+        (explain_text doc.now rules.now) }
     ensures settled { OnOk result (AreAllSettled (W.settled out.new) (W.written out.new)) }
 {
-    write_explanation(told, rules, out)?;
-    finish(out)
+    write_explanation_of(alloc, doc, rules, out)?;
+    match finish(out) {
+        Ok(()) => Ok(()),
+        Err(_) => Err(WriteViewFault::Failed),
+    }
 }
 
 /// Shows the view of a document.
@@ -151,12 +154,10 @@ fn show_explanation<W: Sink>(alloc: Global, doc: &Doc, rules: &[Rule], out: &mut
     ensures { EndsWriting W.written W.missed W.settled W.faults result out.old out.new
         (explain_text doc.now rules.now) }
 {
-    let Ok(told) = explain_tree(alloc, doc, rules) else {
-        return Outcome::NoMemory;
-    };
-    match write_settled_explanation(told.as_slice(), rules, out) {
+    match write_settled_explanation(alloc, doc, rules, out) {
         Ok(()) => Outcome::Done,
-        Err(_) => Outcome::SinkFault,
+        Err(WriteViewFault::Failed) => Outcome::SinkFault,
+        Err(WriteViewFault::NoMemory) => Outcome::NoMemory,
     }
 }
 

@@ -276,6 +276,17 @@ children_start row preds e items flags next same its begins more =
     (element_parts preds e flags begins)
     ∙ ap (λ xs. flags_of_items preds xs ++ rest) (sym its))
 
+-- Where those of the items are passed too, all flags of the element are.
+pub items_passed : (row here : List MarkedStep) (e : Element) (flags next last : List Bool)
+    → here ≡ row_below e row → StartsWith (flags_within (preds_of row) e) flags
+    → next ≡ drop (length (truths_at (preds_of row) e)) flags
+    → last ≡ drop (length (flags_of_items (preds_of here) e.items)) next
+    → last ≡ drop (length (flags_within (preds_of row) e)) flags
+items_passed row here e flags next last same begins more end =
+    end
+    ∙ passed (flags_of_items (preds_of here) e.items) (drop (length (flags_within (preds_of row) e)) flags) next
+    (items_next row here e e.items flags next same refl begins more)
+
 -- the flags of the two kinds of items
 pub ruleset item_flags = (flags_of_item-Text, flags_of_item-Child)
 

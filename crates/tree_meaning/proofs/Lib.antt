@@ -8,3 +8,4 @@ pub mod LineLaws
 pub mod ToldLaws
 pub mod ShowLaws
 pub mod TurnLaws
+pub mod DecidedLaws

@@ -166,7 +166,7 @@ told_in_child row above e c k found =
     (λ i place. sym (append_assoc above (k ∷ []) place) i)
     ∙ sym (told_from-is (row_below e row) (above ++ k ∷ []) c)
 
-told_numbered : (row : List MarkedStep) (above : List ℕ) (e : Element) (rest front : List Item) → front ++ rest ≡ e.items
+pub told_numbered : (row : List MarkedStep) (above : List ℕ) (e : Element) (rest front : List Item) → front ++ rest ≡ e.items
     → map (λ place. told_here (row_at_place row e place) (above ++ place)) (filter (λ place. is_selected_here (row_at_place row e place)) (numbered (map places_of_item rest) (next_number front)))
     ≡ told_of_items (row_below e row) above rest (next_number front)
 told_numbered row above e [] front is = refl
@@ -416,7 +416,7 @@ explained_numbered d rules (Some places ∷ inside) k =
 selected_by_walk : (d : Doc) (rules : List Rule) → (λ place. is_selected_here (row_of d rules place)) ≡ is_selected d rules
 selected_by_walk d rules = λ i place. selected_is d rules place i
 
-root_and_items : (d : Doc) (rules : List Rule) → told_here (row_of d rules []) [] ∷ told_of_items (row_of d rules []) [] d.root.items 1 ≡ explain d rules
+pub root_and_items : (d : Doc) (rules : List Rule) → told_here (row_of d rules []) [] ∷ told_of_items (row_of d rules []) [] d.root.items 1 ≡ explain d rules
 root_and_items d rules =
     let row : List MarkedStep = flat_map begun_rule rules in
     let inside : List (List ℕ) = numbered (map places_of_item d.root.items) 1 in

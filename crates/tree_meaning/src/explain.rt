@@ -49,7 +49,7 @@ fn does_select_as(progress: &Progress<'_>, own: Sign) -> bool
 }
 
 /// The number of the first rule of this sign that selects the element.
-fn first_rule(row: &[Progress<'_>], own: Sign) -> Option<u16>
+pub(crate) fn first_rule(row: &[Progress<'_>], own: Sign) -> Option<u16>
     requires { rules_in (marked_steps row.now) ≤ 65536 }
     ensures { result ≡ first_here own (marked_steps row.now) 0 }
 {
@@ -79,7 +79,7 @@ fn told_at(alloc: Global, row: &[Progress<'_>], place: &[u64]) -> Result<Told, A
 }
 
 #[tactic(auto, using(crate::proofs::Lists::any_map))]
-fn is_selected(row: &[Progress<'_>]) -> bool
+pub(crate) fn is_selected(row: &[Progress<'_>]) -> bool
     ensures { result ≡ is_selected_here (marked_steps row.now) }
 {
     does_any_select(row)
@@ -126,7 +126,7 @@ fn tell_if_unselected(
 
 /// The number of the next element child, behind an item.
 #[tactic(auto, using(crate::proofs::SignLaws::element_laws))]
-fn number_after(item: &Item, number: u64) -> u64
+pub(crate) fn number_after(item: &Item, number: u64) -> u64
     requires { number < 2 ^ 64 - 1 }
     ensures { result ≡ number_after (element_of item.now) number }
 {

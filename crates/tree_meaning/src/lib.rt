@@ -2,7 +2,9 @@
 //! view. Each is found by one walk over the tree.
 #![tactic(auto)]
 
+mod decided;
 mod explain;
+mod explanation_writer;
 mod known;
 mod lines;
 mod marks;
@@ -13,6 +15,7 @@ mod view;
 mod view_writer;
 
 pub use explain::{Told, explain_tree, selected};
+pub use explanation_writer::write_explanation_of;
 pub use lines::write_explanation;
 pub use sign::sign_at;
 pub use view::view_tree;

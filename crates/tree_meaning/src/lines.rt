@@ -14,7 +14,7 @@ use itoa::Buffer;
 
 /// Writes a child number of a place.
 #[tactic(auto, using(acl_outside::proofs::Remaining::byte_chain))]
-fn write_number<K: Sink>(number: u64, sink: &mut K) -> Result<(), Failed>
+pub(crate) fn write_number<K: Sink>(number: u64, sink: &mut K) -> Result<(), Failed>
     ensures { Writes K.written K.missed K.settled K.faults result sink.old sink.new
         (slash ∷ decimal number) }
 {
@@ -42,7 +42,7 @@ fn write_place<K: Sink>(place: &[u64], sink: &mut K) -> Result<(), Failed>
     }
 }
 
-fn id_of(rules: &[Rule], number: Option<u16>) -> &[u8]
+pub(crate) fn id_of(rules: &[Rule], number: Option<u16>) -> &[u8]
     ensures { result.now ≡ rule_word rules.now number }
 {
     match number {
@@ -54,7 +54,7 @@ fn id_of(rules: &[Rule], number: Option<u16>) -> &[u8]
     }
 }
 
-fn sign_and_space(sign: Sign) -> &'static [u8]
+pub(crate) fn sign_and_space(sign: Sign) -> &'static [u8]
     ensures { result.now ≡ sign_byte sign ∷ space ∷ [] }
 {
     match sign {
@@ -63,7 +63,7 @@ fn sign_and_space(sign: Sign) -> &'static [u8]
     }
 }
 
-fn write_head<K: Sink>(sign: &[u8], id: &[u8], sink: &mut K) -> Result<(), Failed>
+pub(crate) fn write_head<K: Sink>(sign: &[u8], id: &[u8], sink: &mut K) -> Result<(), Failed>
     ensures { Writes K.written K.missed K.settled K.faults result sink.old sink.new
         (sign.now ++ (id.now ++ space ∷ [])) }
 {

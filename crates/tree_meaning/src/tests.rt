@@ -431,10 +431,8 @@ fn a_value_is_compared_as_a_text_or_as_a_whole_number(rt: HostRuntime) -> Result
     Ok(())
 }
 
-/// Twenty steps `//a` over 255 nested `a`: by naive recursion over the ancestors this would never end.
-#[test]
-fn many_descendant_steps_end_at_once(rt: HostRuntime) -> Result<(), Fail> {
-    let alloc = rt.alloc();
+/// The lines of 255 elements `a`, each inside the one before.
+fn nested_lines(alloc: Global) -> Result<String, Fail> {
     let mut lines = String::new(alloc);
     for _ in 0..255 {
         lines.push_str("(a;")?;
@@ -443,6 +441,14 @@ fn many_descendant_steps_end_at_once(rt: HostRuntime) -> Result<(), Fail> {
         lines.push_str(")a;")?;
     }
     lines.push_str(")a")?;
+    Ok(lines)
+}
+
+/// Twenty steps `//a` over 255 nested `a`: by naive recursion over the ancestors this would never end.
+#[test]
+fn many_descendant_steps_end_at_once(rt: HostRuntime) -> Result<(), Fail> {
+    let alloc = rt.alloc();
+    let lines = nested_lines(alloc)?;
     let mut text = String::new(alloc);
     text.push_str("+")?;
     for _ in 0..20 {
@@ -547,6 +553,33 @@ fn each_sign_is_told_with_its_rule_and_its_place(rt: HostRuntime) -> Result<(), 
         let mut sink = MemSink::new(alloc, 200, Vec::new(alloc))?;
         assert!(rt; write_explanation(found.as_slice(), rules.as_slice(), &mut sink).is_ok());
         assert_eq!(rt; sink.written(), written.as_bytes(), "{text}");
+        let mut sink = MemSink::new(alloc, 200, Vec::new(alloc))?;
+        assert!(rt; write_explanation_of(alloc, &doc, rules.as_slice(), &mut sink).is_ok());
+        assert_eq!(rt; sink.written(), written.as_bytes(), "{text}, line by line");
     }
+    Ok(())
+}
+
+/// Each of 255 nested elements is selected, and has `/1` more in its place than the one around it.
+#[test]
+fn each_nested_element_has_its_line(rt: HostRuntime) -> Result<(), Fail> {
+    let alloc = rt.alloc();
+    let rules = rules(alloc, "+//*")?;
+    if rules.len() > 1 {
+        return Err("one rule at most".into());
+    }
+    let lines = nested_lines(alloc)?;
+    let doc = document(alloc, lines.as_str())?;
+    let mut wanted = format!(in alloc; "+ R /\n")?;
+    let mut place = String::new(alloc);
+    for _ in 1..255 {
+        place.push_str("/1")?;
+        wanted.push_str("+ R ")?;
+        wanted.push_str(place.as_str())?;
+        wanted.push_str("\n")?;
+    }
+    let mut sink = MemSink::new(alloc, 70000, Vec::new(alloc))?;
+    assert!(rt; write_explanation_of(alloc, &doc, rules.as_slice(), &mut sink).is_ok());
+    assert_eq!(rt; sink.written(), wanted.as_bytes());
     Ok(())
 }

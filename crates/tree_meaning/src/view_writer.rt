@@ -14,10 +14,10 @@ use acl_model::{Bytes, Doc, Element, Item, Rule};
 use acl_outside::{Failed, NoMemory, Sink, write_pieces};
 use std::alloc::Global;
 
-/// Why a view was not written.
+/// Why a view or an explanation was not written.
 #[derive(Clone, Copy, Debug, PartialEq, Eq)]
 pub enum WriteViewFault {
-    /// There was no memory to find how the elements stand in the view. Nothing was asked of the sink.
+    /// There was no memory for what is found of the elements. Nothing was asked of the sink.
     NoMemory,
     /// The sink failed. Its count of faults rose with this answer, or stands at its last value.
     Failed,
