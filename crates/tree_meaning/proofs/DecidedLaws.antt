@@ -1,6 +1,6 @@
 -- The list of entries, and what is told by it, as equations; and that this is what acl_model explains.
 use Rattle.std.proofs.Common.{◌≡◌, ℕ, ◌+◌, ◌<◌, ◌≤◌, suc, get_or, drop, drop-cons, arith, Bool, true, false, Option, Some, None, List, [], ◌∷◌, ◌++◌, map, length, length-append, decimal, refl, ap, sym, ◌∙◌, append_assoc, append-nil, add-one, if◌then◌else◌, cond}
-use Rattle.std.proofs.lemmas.List.{map-append, drop_all, drop-drop, length-map}
+use Rattle.std.proofs.lemmas.List.{map-append, drop-drop, length-map}
 use Rattle.std.proofs.lemmas.List.Folds.{concat-append}
 use Rattle.std.specs.List.{concat, filter, flat_map}
 use Rattle.std.specs.Option.{option_map_or}
@@ -14,10 +14,9 @@ use Rattle.acl_model.specs.declared.document.Element.{Element}
 use Rattle.acl_model.specs.declared.document.Item.{Item}
 use Rattle.acl_model.specs.declared.document.Item.TheVariants.{Text, Child}
 use Rattle.acl_model.specs.declared.rule.Rule.{Rule}
-use Rattle.acl_model.specs.declared.rule.Sign.TheVariants.{Deny}
 use Rattle.tree_meaning.specs.declared.decided.Decided.{Decided}
-use Rattle.tree_meaning.specs.Marks.{MarkedStep, begun_rule, row_below, sign_here}
-use Rattle.tree_meaning.specs.Told.{first_here, is_selected_here, told_here, row_at_place, told_of_items, number_after}
+use Rattle.tree_meaning.specs.Marks.{MarkedStep, begun_rule, row_below}
+use Rattle.tree_meaning.specs.Told.{is_selected_here, told_here, row_at_place, number_after}
 use Rattle.tree_meaning.specs.Decided.{decided_here, entry_here, entries_from, entries_of_child, entries_of_items, entries_of_root, first_entry, explanation_at, told_by_entry, told_by_entries, told_below, entries_after, told_below_child, entries_after_child, told_below_items, entries_after_items}
 use Rattle.tree_meaning.proofs.ViewLaws.{next_number, next-Text, next-Child, child-behind}
 use Rattle.tree_meaning.proofs.ToldLaws.{told_numbered, root_and_items}

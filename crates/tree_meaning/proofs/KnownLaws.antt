@@ -1,13 +1,11 @@
 -- A walk goes along with the flags of the predicates: at each element and at each item its flags come next.
-use Rattle.std.proofs.Common.{◌≡◌, ℕ, ◌+◌, ◌-◌, ◌<◌, ◌≤◌, min, suc, zero, Bool, true, false, ◌&&◌, Option, Some, None, List, [], ◌∷◌, ◌++◌, map, take, drop, length, get_or, eqb, drop-cons, add-one, refl, ap, sym, subst, ◌∙◌, append-nil, append_assoc, arith}
+use Rattle.std.proofs.Common.{◌≡◌, ℕ, ◌+◌, ◌-◌, ◌<◌, ◌≤◌, min, suc, zero, Bool, true, false, ◌&&◌, Option, Some, None, List, [], ◌∷◌, ◌++◌, take, drop, length, get_or, eqb, drop-cons, add-one, refl, ap, sym, subst, ◌∙◌, append-nil, append_assoc, arith}
 use Rattle.std.proofs.Math.Seq.{take-append_seam, drop-append_seam}
-use Rattle.std.proofs.lemmas.List.{map-append, drop_all, length-map, drop-drop, length-take, length-drop, get_or-take, get_or-drop, length-append}
+use Rattle.std.proofs.lemmas.List.{drop_all, length-map, drop-drop, length-take, length-drop, get_or-take, get_or-drop, length-append}
 use Rattle.std.proofs.lemmas.Option.{same_Some}
 use borrow.Author.Tests.{eqb-true}
 use Rattle.std.proofs.lemmas.List.Concat.{flat_map-append}
 use Rattle.std.specs.List.{list_all, flat_map}
-use Rattle.std.specs.Option.{option_copied}
-use Rattle.acl_model.specs.NameTests.{passes}
 use Rattle.acl_model.specs.Places.{element_of}
 use Rattle.acl_model.specs.Predicates.{holds, descendants, below_item}
 use Rattle.acl_model.proofs.GrantLaws.{none_is_not_some}
@@ -17,12 +15,10 @@ use Rattle.acl_model.specs.declared.document.Element.{Element}
 use Rattle.acl_model.specs.declared.document.Item.{Item}
 use Rattle.acl_model.specs.declared.document.Item.TheVariants.{Text, Child}
 use Rattle.acl_model.specs.declared.path.Pred.{Pred}
-use Rattle.acl_model.specs.declared.path.Step.{Step}
 use Rattle.predicate_walk.specs.declared.PredRef.{PredRef}
 use Rattle.predicate_walk.specs.Truths.{truths, truths_at, preds_in}
 use Rattle.tree_meaning.specs.declared.marks.Mark.{Mark}
-use Rattle.tree_meaning.specs.declared.marks.Progress.{Progress}
-use Rattle.tree_meaning.specs.Marks.{MarkedStep, marked_step, marked_steps, moved, no_step, row_below, wanted_of}
+use Rattle.tree_meaning.specs.Marks.{MarkedStep, moved, no_step, row_below, wanted_of}
 use Rattle.tree_meaning.specs.Known.{StartsWith, preds_of_step, preds_of, flags_within, flags_of_item, flags_of_items}
 
 -- ---- what a list begins with
