@@ -7,7 +7,7 @@ A row of the table is one run. A case fails where a run takes more time or memor
 allows, where time grows faster than the document, where a run is stopped at its limit, or where the
 answer isn't the one that is due. The exit status is 1 where a case fails, and 2 for a faulty line.
 
---short runs what fits into 30 seconds, and prints only the cases that fail: it is for the gate.
+--short is for the gate: it leaves out the largest documents, and prints only the cases that fail.
 --only takes the cases whose line in the table has that word.
 --limit is the processor seconds after which a run is stopped: 60, and 2 with --short.
 
@@ -114,9 +114,9 @@ def wide_heads(count):
     yield from repeat("(a\n(a\n)a\n)a\n", count)
 
 
-def chains(count, bottom=""):
-    """An element with many chains in it, each as deep as a document may be."""
-    chain = "(a\n" * 254 + bottom + ")a\n" * 254
+def chains(count, levels, bottom=""):
+    """An element with many chains in it, each of so many elements in each other."""
+    chain = "(a\n" * levels + bottom + ")a\n" * levels
     return around("a", repeat(chain, count))
 
 
@@ -167,16 +167,16 @@ ATTRIBUTES_BELOW = Document(
 LONG_VALUES = Document(
     "an attribute of 1,000,000 bytes",
     lambda size: with_long_value(1_000_000 * size))
-CHAINS = Document("chains of 254 elements, 4 MB", lambda size: chains(2_700 * size))
+CHAINS = Document("chains of 254 elements, 4 MB", lambda size: chains(2_700 * size, 254))
 CHAINS_OF_NAMES = Document(
-    "chains of 254 elements around 250 names, 2 MB",
-    lambda size: chains(500 * size, "".join(empty_elements(names(250), 250))))
+    "chains of 253 elements around 250 names, 2 MB",
+    lambda size: chains(500 * size, 253, "".join(empty_elements(names(250), 250))))
 CHAINS_AROUND_TEXTS = Document(
     "chains of 254 elements around 255 bytes, 0.4 MB",
-    lambda size: chains(200 * size, "-" + "x" * 254 + "z\n"))
+    lambda size: chains(200 * size, 254, "-" + "x" * 254 + "z\n"))
 CHAINS_AROUND_NUMBERS = Document(
     "chains of 254 elements around 18 digits, 0.3 MB",
-    lambda size: chains(200 * size, "-" + "0" * 17 + "1\n"))
+    lambda size: chains(200 * size, 254, "-" + "0" * 17 + "1\n"))
 WIDE_HEADS = Document(
     "20,000 elements in 255 names",
     lambda size: around("a", wide_heads(20_000 * size)))
@@ -499,6 +499,11 @@ def measured(words, given, limit):
     return Run(seconds, used.ru_maxrss * 1024, child.returncode, written, said)
 
 
+def own_memory():
+    """The bytes of memory with which each child begins, and some more."""
+    return resource.getrusage(resource.RUSAGE_SELF).ru_maxrss * 1024 * 1.1
+
+
 class Trials:
     """Runs cases, and keeps what they took."""
 
@@ -552,7 +557,7 @@ class Trials:
             yield f"wrote {run.written} bytes, and {case.answer} was due"
         if run.seconds > most:
             yield f"{run.seconds:.2f} s, and at most {most} are allowed"
-        if run.memory > case.memory * length:
+        if run.memory > max(case.memory * length, own_memory()):
             yield (f"{run.memory / length:.0f} times the document in memory, "
                    f"and at most {case.memory} are allowed")
         if case.beside:
@@ -576,7 +581,7 @@ def faults_of_growth(small, large):
     (size, seconds), (larger, more) = small, large
     allowed = GROWTH ** math.log2(larger / size) * max(seconds, NOISE)
     if allowed < more < math.inf:
-        yield f"{more:.2f} s, and {seconds:.2f} where the document is {larger // size} times smaller"
+        yield f"{more:.2f} s, and {seconds:.2f} for a document {larger // size} times smaller"
 
 
 # ---- what is printed
@@ -585,16 +590,15 @@ def seconds_of(run, limit):
     return f"more than {limit}" if math.isinf(run.seconds) else f"{run.seconds:.3f}"
 
 
-def memory_of(run, own):
-    """Megabytes, where they are more than Python's own, which a child begins with."""
-    return f"{run.memory / 1e6:,.0f} MB" if run.memory > own else "-"
+def memory_of(run):
+    """Megabytes, where they can be seen."""
+    return f"{run.memory / 1e6:,.0f} MB" if run.memory > own_memory() else "-"
 
 
 def print_rows(trials, case):
-    own = resource.getrusage(resource.RUSAGE_SELF).ru_maxrss * 1024 * 1.1
     for size, run in trials.of(case):
         print(f"{case.title()[:58]:58}  {case.document.what:48}  {trials.bytes_of(case, size):>10,}"
-              f"  {seconds_of(run, trials.limit):>12}  {memory_of(run, own):>8}", flush=True)
+              f"  {seconds_of(run, trials.limit):>12}  {memory_of(run):>8}", flush=True)
 
 
 def tried(trials, case):
@@ -620,7 +624,7 @@ def chosen(is_short, word):
 def words_of_line():
     reader = argparse.ArgumentParser(description=__doc__.split("\n")[0])
     reader.add_argument("program", help="the program acl")
-    reader.add_argument("--short", action="store_true", help="30 seconds, for the gate")
+    reader.add_argument("--short", action="store_true", help="for the gate: fewer documents")
     reader.add_argument("--only", default="", metavar="WORD", help="cases with that word")
     reader.add_argument("--limit", type=int, metavar="SECONDS", help="when a run is stopped")
     return reader.parse_args()
@@ -629,7 +633,7 @@ def words_of_line():
 def main():
     line = words_of_line()
     if not os.access(line.program, os.X_OK):
-        print(f"{line.program} doesn't stand, or isn't a program")
+        print(f"{line.program}: there is no such program", file=sys.stderr)
         return 2
     limit = line.limit or (2 if line.short else 60)
     cases, failed = chosen(line.short, line.only), 0
