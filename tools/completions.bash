@@ -1,0 +1,51 @@
+# Completions of acl for bash: its commands, options and files. Source this file, or install it as
+# ~/.local/share/bash-completion/completions/acl. .ci/try_words.sh compares it with the program.
+
+# Leaves in `given` the words before the one that is completed, without redirections.
+_acl_given() {
+    local word after=
+    given=()
+    for word in "${COMP_WORDS[@]:1:COMP_CWORD-1}"; do
+        if [ -n "$after" ]; then
+            after=
+        elif [[ $word == $redirection ]]; then
+            after=file
+        else
+            given+=("$word")
+        fi
+    done
+}
+
+# What an empty COMPREPLY leaves to bash are files. Where none belong, that is switched off.
+_acl_no_files() {
+    compopt +o default 2>/dev/null
+}
+
+_acl() {
+    local redirection='@(?([0-9])<|?([0-9&])>?(>)|>&)'
+    local current=${COMP_WORDS[COMP_CWORD]} given files options= option
+    COMPREPLY=()
+    [[ ${COMP_WORDS[COMP_CWORD-1]} == $redirection ]] && return
+    _acl_given
+    if [ "${#given[@]}" -eq 0 ]; then
+        _acl_no_files
+        COMPREPLY=($(compgen -W "preview encode seal view explain sample" -- "$current"))
+        return
+    fi
+    case ${given[0]} in
+        preview) files=1 options="--query --explain" ;;
+        encode | seal) files=1 ;;
+        view) files=2 options="--query" ;;
+        explain) files=2 ;;
+        *) files=0 ;;
+    esac
+    [ "${#given[@]}" -le "$files" ] && return
+    _acl_no_files
+    # Each option stands once, --query and --explain not together, and P is a path of XPath.
+    for option in "${given[@]:files+1}"; do
+        case $option in --query | --query=* | --explain) return ;; esac
+    done
+    COMPREPLY=($(compgen -W "$options" -- "$current"))
+}
+
+complete -o default -F _acl acl
