@@ -14,7 +14,8 @@ use Rattle.tree_meaning.specs.Told.{first_here, is_selected_here, row_at_place, 
 
 -- ---- the list
 
--- the sign of an element, by the steps at it, and the number of the first rule of this sign that selects it
+-- the sign of an element, by the steps at it, and the number of the first rule of this sign that selects it; where no rule
+-- selects it, that it is denied by none
 unfoldable pub decided_here : List MarkedStep → Decided
 decided_here here = record { sign = sign_here here Deny; rule = first_here (sign_here here Deny) here 0 }
 

@@ -25,7 +25,7 @@ pub(crate) struct Decided {
     pub rule: Option<u16>,
 }
 
-/// Where the sign of an element comes from, by the steps at it.
+/// Where the sign of an element comes from, by the steps at it; where no rule selects it, that it is denied by none.
 #[tactic(auto, unfolding(crate::specs::Decided::decided_here))]
 fn decided_by(row: &[Progress<'_>]) -> Decided
     requires { rules_in (marked_steps row.now) ≤ 65536 }
@@ -38,7 +38,7 @@ fn decided_by(row: &[Progress<'_>]) -> Decided
     }
 }
 
-/// The same, where a rule selects the element.
+/// Where the sign of an element comes from, where a rule selects it.
 fn decided_if_selected(row: &[Progress<'_>]) -> Option<Decided>
     requires { rules_in (marked_steps row.now) ≤ 65536 }
     ensures { result ≡ entry_here (marked_steps row.now) }

@@ -192,8 +192,8 @@ fn write_decided<K: Sink>(
 }
 
 /// Writes where the signs of a document's elements come from: a line for the root, and one for each element that a rule
-/// selects. All memory is taken before the first byte; it doesn't grow with the depth of places. Where the sink fails, a
-/// prefix was written, and nothing after the failure.
+/// selects. All memory is taken before the first byte, a few bytes for each element, however deep it stands. Where the sink
+/// fails, a prefix was written, and nothing after the failure.
 pub fn write_explanation_of<K: Sink>(
     alloc: Global,
     doc: &Doc,

@@ -465,22 +465,82 @@ fn many_descendant_steps_end_at_once(rt: HostRuntime) -> Result<(), Fail> {
 #[test]
 fn a_sign_is_that_of_the_nearest_selected_element(rt: HostRuntime) -> Result<(), Fail> {
     let alloc = rt.alloc();
-    let rules = rules(alloc, "+//Folder;-//Admin;+//SSN")?;
-    let doc = document(alloc, HOSPITAL)?;
-    for (place, sign) in [
-        ([].as_slice(), Some(Sign::Deny)),
-        ([1].as_slice(), Some(Sign::Grant)),
-        ([1, 1].as_slice(), Some(Sign::Deny)),
-        ([1, 1, 1].as_slice(), Some(Sign::Grant)),
-        ([1, 1, 2].as_slice(), Some(Sign::Deny)),
-        ([1, 2, 2].as_slice(), Some(Sign::Grant)),
-        ([1, 0].as_slice(), None),
-        ([1, 3].as_slice(), None),
-        ([2].as_slice(), None),
-        ([1, 2, 2, 1].as_slice(), None),
+    let with_b = "(r;(a;(c;)c;(b;)b;)a;-x;(a;(c;)c;)a;(x;(a;(b;)b;)a;)x;)r";
+    for (text, lines, place, sign) in [
+        (
+            "+//Folder;-//Admin;+//SSN",
+            HOSPITAL,
+            [].as_slice(),
+            Some(Sign::Deny),
+        ),
+        (
+            "+//Folder;-//Admin;+//SSN",
+            HOSPITAL,
+            [1].as_slice(),
+            Some(Sign::Grant),
+        ),
+        (
+            "+//Folder;-//Admin;+//SSN",
+            HOSPITAL,
+            [1, 1].as_slice(),
+            Some(Sign::Deny),
+        ),
+        (
+            "+//Folder;-//Admin;+//SSN",
+            HOSPITAL,
+            [1, 1, 1].as_slice(),
+            Some(Sign::Grant),
+        ),
+        (
+            "+//Folder;-//Admin;+//SSN",
+            HOSPITAL,
+            [1, 1, 2].as_slice(),
+            Some(Sign::Deny),
+        ),
+        (
+            "+//Folder;-//Admin;+//SSN",
+            HOSPITAL,
+            [1, 2, 2].as_slice(),
+            Some(Sign::Grant),
+        ),
+        (
+            "+//Folder;-//Admin;+//SSN",
+            HOSPITAL,
+            [1, 0].as_slice(),
+            None,
+        ),
+        (
+            "+//Folder;-//Admin;+//SSN",
+            HOSPITAL,
+            [1, 3].as_slice(),
+            None,
+        ),
+        ("+//Folder;-//Admin;+//SSN", HOSPITAL, [2].as_slice(), None),
+        (
+            "+//Folder;-//Admin;+//SSN",
+            HOSPITAL,
+            [1, 2, 2, 1].as_slice(),
+            None,
+        ),
+        // Of the elements before the place only the predicates are passed.
+        ("+//a[b];-//c", with_b, [1].as_slice(), Some(Sign::Grant)),
+        ("+//a[b];-//c", with_b, [1, 1].as_slice(), Some(Sign::Deny)),
+        ("+//a[b];-//c", with_b, [1, 2].as_slice(), Some(Sign::Grant)),
+        ("+//a[b];-//c", with_b, [2].as_slice(), Some(Sign::Deny)),
+        ("+//a[b];-//c", with_b, [3].as_slice(), Some(Sign::Deny)),
+        (
+            "+//a[b];-//c",
+            with_b,
+            [3, 1, 1].as_slice(),
+            Some(Sign::Grant),
+        ),
+        ("+//a[b];-//c", with_b, [4].as_slice(), None),
     ] {
+        let rules = rules(alloc, text)?;
+        let doc = document(alloc, lines)?;
         let place = Place::from_slice(alloc, place)?;
-        assert_eq!(rt; sign_at(alloc, &doc, rules.as_slice(), &place)?, sign);
+        let found = sign_at(alloc, &doc, rules.as_slice(), &place)?;
+        assert_eq!(rt; found, sign, "{text}");
     }
     Ok(())
 }
@@ -538,6 +598,12 @@ fn each_sign_is_told_with_its_rule_and_its_place(rt: HostRuntime) -> Result<(), 
             "(a;(b;)b;)a",
             [Some(1), Some(0)].as_slice(),
             "+ R /\n- R /1\n",
+        ),
+        (
+            "+//a[b];-//c",
+            "(r;(a;(c;)c;(b;)b;)a;(a;(c;)c;)a;)r",
+            [None, Some(0), Some(1), Some(1)].as_slice(),
+            "- closed /\n+ R /1\n- R /1/1\n- R /2/1\n",
         ),
     ] {
         let rules = rules(alloc, text)?;
