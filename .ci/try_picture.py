@@ -117,7 +117,7 @@ def hospital(trials):
 
 
 def findings(trials):
-    """What is found in rules, a body a rule, each behind a grant of the root."""
+    """The findings for each of these rules, in a body that first grants the root."""
     ward = trials.put("ward of Ana.esis", WARD)
     for rule, found in FOUND:
         rules = dict.fromkeys(["+ all /ward", rule])
