@@ -1,5 +1,6 @@
 pub mod TextEquations
 pub mod FormEquations
+pub mod FormLaws
 pub mod ByteLaws
 pub mod DictionaryLaws
 pub mod WidthLaws

@@ -2,6 +2,7 @@ pub mod Ascii
 pub mod Names
 pub mod Lines
 pub mod Document
+pub mod Form
 pub mod Text
 pub mod Dictionary
 pub mod Bits

@@ -2,6 +2,7 @@
 #![tactic(auto)]
 
 mod document;
+mod form;
 mod laws;
 mod lines;
 mod names;
@@ -10,6 +11,7 @@ mod rule;
 mod sequence;
 
 pub use document::{Doc, Element, Item};
+pub use form::{is_document, is_view_document};
 pub use laws::{
     documents_are_view_documents, elements_show_where_granted, grants_are_of_places,
     least_widths_are_found, paths_select_by_ancestors, places_are_of_elements,

@@ -1,6 +1,7 @@
 //! That each public call gives what it is asked for, with ample memory.
 
 use super::*;
+use sqlite_items::Items;
 use std::test::Fail;
 
 #[test]
@@ -58,5 +59,25 @@ fn a_text_is_cut_at_the_first_of_its_bytes(rt: HostRuntime) -> Result<(), Fail> 
     let parts = Some((b"+".as_slice(), b"R1 /a".as_slice()));
     assert_eq!(rt; cut(b"+ R1 /a", b' '), parts);
     assert_eq!(rt; cut(b"R1", b' '), None);
+    Ok(())
+}
+
+#[test]
+fn a_dummy_stands_only_in_a_view(rt: HostRuntime) -> Result<(), Fail> {
+    for (name, in_document, in_view) in [
+        (b"Folder".as_slice(), true, true),
+        (b"-".as_slice(), false, true),
+        (b"--".as_slice(), false, false),
+    ] {
+        let doc = Doc {
+            root: Element {
+                name: Name::from_slice(rt.alloc(), name)?,
+                attributes: Sequence::new(rt.alloc()),
+                items: Items::new(rt.alloc()),
+            },
+        };
+        assert_eq!(rt; is_document(&doc), in_document);
+        assert_eq!(rt; is_view_document(&doc), in_view);
+    }
     Ok(())
 }
