@@ -4,6 +4,7 @@ use Rattle.std.specs.Prelude.{ℕ, Bool, true, nat_eq, nat_le, not, ◌&&◌, Op
 use Rattle.std.specs.Cmp.Lexicographic.{pointwise}
 use Rattle.std.specs.Int.{w16, to_be_bytes}
 use Rattle.std.specs.List.{list_all, list_any, concat, flat_map, position}
+use Rattle.acl_model.specs.Limits.{most_names}
 use Rattle.acl_model.specs.Names.{is_name}
 use Rattle.acl_model.specs.declared.document.Doc.{Doc}
 use Rattle.acl_model.specs.declared.document.Item.{Item}
@@ -63,7 +64,7 @@ are_distinct names = are_new [] names
 -- A dictionary has 1 to 256 names, no two the same.
 abbrev pub is_dictionary : List (List ℕ) → Bool
 is_dictionary names =
-    nat_le 1 (length names) && nat_le (length names) 256 && list_all is_name names && are_distinct names
+    nat_le 1 (length names) && nat_le (length names) most_names && list_all is_name names && are_distinct names
 
 -- ---- the bytes of a dictionary
 

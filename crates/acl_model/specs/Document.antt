@@ -3,6 +3,7 @@
 use Rattle.std.specs.Prelude.{ℕ, ◌+◌, Bool, false, nat_eq, nat_le, max, ◌&&◌, ◌||◌, List, [], ◌∷◌, length}
 use Rattle.std.specs.Char.{is_ascii_uppercase}
 use Rattle.std.specs.List.{list_all, before_first, after_first}
+use Rattle.acl_model.specs.Limits.{most_attributes, most_open_elements}
 use Rattle.acl_model.specs.Ascii.{space, hyphen}
 use Rattle.acl_model.specs.Names.{is_name}
 use Rattle.acl_model.specs.Lines.{is_within_line}
@@ -33,7 +34,7 @@ item_is_well_formed (Item-F.Child inner) = inner
 -- Its name passes the test, it has at most 65,535 attributes, each of the right form, and its items are of the right form.
 abbrev element_is_well_formed : (List ℕ → Bool) → Element-F Bool Bool → Bool
 element_is_well_formed name e =
-    name e.name && nat_le (length e.attributes) 65535 && list_all is_raw_attribute e.attributes && list_all (λ b. b) e.items
+    name e.name && nat_le (length e.attributes) most_attributes && list_all is_raw_attribute e.attributes && list_all (λ b. b) e.items
 
 -- Each name in the element passes the test, and all attributes and texts in it are of the right form.
 unfoldable pub is_well_formed : (List ℕ → Bool) → Element → Bool
@@ -69,7 +70,7 @@ height_of_item = fold-Item ℕ ℕ item_height element_height
 
 -- A document has names of the right form, and at most 255 elements stand in each other.
 abbrev pub is_document : Doc → Bool
-is_document d = is_well_formed is_name d.root && nat_le (height d.root) 255
+is_document d = is_well_formed is_name d.root && nat_le (height d.root) most_open_elements
 
 -- A dummy has the name '-'.
 abbrev pub is_dummy_name : List ℕ → Bool
@@ -83,4 +84,4 @@ is_view_name name = is_name name || is_dummy_name name
 
 -- A view of a document is one in which dummies may stand.
 abbrev pub is_view_document : Doc → Bool
-is_view_document d = is_well_formed is_view_name d.root && nat_le (height d.root) 255
+is_view_document d = is_well_formed is_view_name d.root && nat_le (height d.root) most_open_elements

@@ -2,6 +2,7 @@
 use Rattle.std.specs.Prelude.{ℕ, Bool, false, nat_eq, nat_le, ◌&&◌, ◌||◌, List, [], ◌∷◌, length}
 use Rattle.std.specs.List.{list_all}
 use Rattle.std.specs.Char.{is_ascii_alphabetic, is_ascii_digit}
+use Rattle.acl_model.specs.Limits.{most_name_bytes}
 use Rattle.acl_model.specs.Ascii.{is_byte, hyphen, full_stop, colon, underscore}
 
 -- A name begins with a letter, '_', ':' or a byte from 128 to 255.
@@ -19,4 +20,4 @@ is_spelled_as_name (b ∷ bs) = begins_name b && list_all continues_name bs
 
 -- A name has 1 to 255 bytes. So '-' is none.
 abbrev pub is_name : List ℕ → Bool
-is_name name = is_spelled_as_name name && nat_le (length name) 255
+is_name name = is_spelled_as_name name && nat_le (length name) most_name_bytes

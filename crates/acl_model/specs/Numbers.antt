@@ -4,11 +4,12 @@ use Rattle.std.specs.List.{list_all}
 use Rattle.std.specs.Option.{option_map}
 use Rattle.std.specs.Char.{is_ascii_digit}
 use Rattle.std.specs.Str.Parse.{digits_value}
+use Rattle.acl_model.specs.Limits.{most_digits}
 use Rattle.acl_model.specs.Ascii.{hyphen}
 
 -- 1 to 18 digits
 abbrev pub are_digits : List ℕ → Bool
-are_digits ds = list_all is_ascii_digit ds && nat_le 1 (length ds) && nat_le (length ds) 18
+are_digits ds = list_all is_ascii_digit ds && nat_le 1 (length ds) && nat_le (length ds) most_digits
 
 -- the number that 1 to 18 digits write in decimal; leading zeros count as digits
 abbrev pub number_of_digits : List ℕ → Option ℕ

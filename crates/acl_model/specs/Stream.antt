@@ -4,6 +4,7 @@
 use Rattle.std.specs.Prelude.{ℕ, ◌+◌, ◌-◌, ◌%◌, Bool, true, false, nat_eq, nat_lt, nat_le, ◌&&◌, ◌||◌, List, [], ◌∷◌, ◌++◌, length, map, take, replicate, filter, count_by, unwrap_or}
 use Rattle.std.specs.Int.{w16, w32, to_be_bytes}
 use Rattle.std.specs.List.{list_any, flat_map, range_with_len}
+use Rattle.acl_model.specs.Limits.{most_names, most_stream_bytes}
 use Rattle.acl_model.specs.Bits.{bits_of, bytes_of}
 use Rattle.acl_model.specs.Width.{least_width, binary_length}
 use Rattle.acl_model.specs.Document.{height}
@@ -57,9 +58,9 @@ place segments k = size (take k segments)
 abbrev pub has_member : List ℕ → ℕ → Bool
 has_member members n = list_any (λ m. nat_eq m n) members
 
--- the numbers below 256 that pass a test, in order
+-- the numbers of names, which are below 256, that pass a test, in order
 unfoldable pub numbers_with : (ℕ → Bool) → List ℕ
-numbers_with test = filter test (range_with_len 0 256)
+numbers_with test = filter test (range_with_len 0 most_names)
 
 -- how many members stand below the number
 abbrev pub rank : List ℕ → ℕ → ℕ
@@ -158,9 +159,13 @@ tree_segments d =
 abbrev pub tree_section : Doc → List ℕ
 tree_section d = bytes_of_segments (tree_segments d)
 
--- the bytes with zeros after them, up to a whole fragment of 256
+-- A fragment has 256 bytes.
+abbrev pub fragment_len : ℕ
+fragment_len = 256
+
+-- the bytes with zeros after them, up to a whole fragment
 abbrev pub filled_fragments : List ℕ → List ℕ
-filled_fragments bytes = bytes ++ replicate ((256 - length bytes % 256) % 256) 0
+filled_fragments bytes = bytes ++ replicate ((fragment_len - length bytes % fragment_len) % fragment_len) 0
 
 -- the plain stream: the dictionary section, the tree section, and zeros up to a whole fragment
 abbrev pub plain : Doc → List ℕ
@@ -169,8 +174,8 @@ plain d = filled_fragments (dictionary_section (dictionary d) ++ tree_section d)
 -- A document has a stream where it has at most 256 names and its two sections at most 33,554,432 bytes.
 abbrev pub has_stream : Doc → Bool
 has_stream d =
-    nat_le (length (dictionary d)) 256
-    && nat_le (length (dictionary_section (dictionary d)) + length (tree_section d)) 33554432
+    nat_le (length (dictionary d)) most_names
+    && nat_le (length (dictionary_section (dictionary d)) + length (tree_section d)) most_stream_bytes
 
 -- the greatest number of elements that are open at once
 abbrev pub depth : Doc → ℕ

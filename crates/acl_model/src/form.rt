@@ -4,21 +4,17 @@
 ghost use Rattle.std.specs.Prelude.{◌≡◌, ◌&&◌, nat_eq, nat_le, map, length};
 ghost use Rattle.std.specs.Char.{is_ascii_uppercase};
 ghost use Rattle.std.specs.List.{list_all, before_first};
+ghost use Rattle.acl_model.specs.Limits.{most_attributes};
 ghost use Rattle.acl_model.specs.Ascii.{space, line_feed};
 ghost use Rattle.acl_model.specs.Lines.{lacks, is_within_line};
 ghost use Rattle.acl_model.specs.Document.{is_type, is_raw_attribute, is_dummy_name, is_well_formed, item_well_formed, greatest, height, height_of_item, is_document, is_view_document};
 ghost use Rattle.acl_model.specs.Form.{allows};
 
 use crate::document::{Doc, Element, Item};
+use crate::limits::{MOST_ATTRIBUTES, MOST_OPEN_ELEMENTS};
 use crate::lines::cut;
 use crate::names::is_a_name;
 use crate::sequence::Bytes;
-
-/// The most elements that stand in each other.
-const LEVELS: u16 = 255;
-
-/// The most attributes of an element.
-const ATTRIBUTES: usize = 65_535;
 
 /// The names that elements may have.
 #[derive(Clone, Copy)]
@@ -31,14 +27,14 @@ enum Allowed {
 pub fn is_document(doc: &Doc) -> bool
     ensures { result ≡ is_document doc.now }
 {
-    element_is_formed(&doc.root, Allowed::InDocuments, LEVELS)
+    element_is_formed(&doc.root, Allowed::InDocuments, MOST_OPEN_ELEMENTS)
 }
 
 /// Whether it is a view of a document. No element past the greatest depth is looked at.
 pub fn is_view_document(doc: &Doc) -> bool
     ensures { result ≡ is_view_document doc.now }
 {
-    element_is_formed(&doc.root, Allowed::InViews, LEVELS)
+    element_is_formed(&doc.root, Allowed::InViews, MOST_OPEN_ELEMENTS)
 }
 
 /// Whether an element is of the right form, and has at most so many levels.
@@ -83,11 +79,11 @@ fn item_is_formed(item: &Item, names: Allowed, levels: u16) -> bool
 /// Whether an element's name and attributes are of the right form.
 fn has_own_form(element: &Element, names: Allowed) -> bool
     ensures { result ≡ (allows names element.now.name
-        && nat_le (length element.now.attributes) 65535
+        && nat_le (length element.now.attributes) most_attributes
         && list_all is_raw_attribute element.now.attributes) }
 {
     allows(names, element.name.as_slice())
-        && element.attributes.len() <= ATTRIBUTES
+        && element.attributes.len() <= MOST_ATTRIBUTES
         && are_raw_attributes(element.attributes.as_slice())
 }
 

@@ -4,6 +4,7 @@
 mod document;
 mod form;
 mod laws;
+pub mod limits;
 mod lines;
 mod names;
 mod path;

@@ -4,6 +4,8 @@ ghost use Rattle.std.specs.Prelude.{◌≡◌};
 ghost use Rattle.std.specs.List.{list_all};
 ghost use Rattle.acl_model.specs.Names.{begins_name, continues_name, is_name, is_spelled_as_name};
 
+use crate::limits::MOST_NAME_BYTES;
+
 /// Whether a name may begin with this byte.
 pub fn may_begin_name(byte: u8) -> bool
     ensures { result ≡ begins_name byte }
@@ -39,5 +41,5 @@ fn is_spelled(bytes: &[u8]) -> bool
 pub fn is_a_name(bytes: &[u8]) -> bool
     ensures { result ≡ is_name bytes.now }
 {
-    bytes.len() <= 255 && is_spelled(bytes)
+    bytes.len() <= MOST_NAME_BYTES && is_spelled(bytes)
 }
