@@ -4,6 +4,7 @@ use Rattle.std.specs.List.{list_all}
 use Rattle.std.proofs.lemmas.List.Sums.{sum_by-cons, sum_by-append}
 use Rattle.std.proofs.lemmas.Grind.{common_steps}
 use Rattle.std.proofs.Math.Seq.{take-suc}
+use Rattle.acl_model.specs.Limits.{most_path_bytes}
 use Rattle.acl_model.specs.Names.{is_spelled_as_name, is_name}
 use Rattle.acl_model.specs.declared.path.Path.{Path}
 use Rattle.acl_model.specs.declared.path.Step.{Step}
@@ -14,7 +15,7 @@ use Rattle.acl_model.specs.declared.path.Axis.TheVariants.{Child, Descendant}
 use Rattle.acl_model.specs.declared.path.Test.{Test}
 use Rattle.acl_model.specs.declared.path.Test.TheVariants.{Any, Named}
 use Rattle.xpath_rules.specs.Grammar.{WrittenCmp, WrittenPred, WrittenStep, spaces, slash_text, test_text, is_test, lead_text, further_text, way_text, is_way, body_text, is_attribute, is_dot, cmp_text, is_cmp, pred_text, is_pred, pred_of, step_text, is_step, step_of, path_text, is_path, path_of}
-use Rattle.xpath_rules.specs.Reading.{most_path_bytes, Spells}
+use Rattle.xpath_rules.specs.Reading.{Spells}
 use Rattle.xpath_rules.specs.Machine.{read_path_of}
 use Rattle.xpath_rules.specs.Answers.{CanBeRead}
 use Rattle.xpath_rules.specs.Counting.{step_count, pred_count, way_test_count, pred_step_count, in_32_bits}

@@ -4,12 +4,13 @@ use Rattle.std.specs.Option.{option_and_then}
 use borrow.Author.Tests.{leb-true}
 use Rattle.std.proofs.lemmas.Grind.{common_steps}
 use Rattle.std.proofs.lemmas.List.{take-append-drop, take-append-le}
+use Rattle.acl_model.specs.Limits.{most_path_bytes}
 use Rattle.acl_model.specs.declared.path.Path.{Path}
 use Rattle.xpath_rules.specs.declared.state.State.{State}
 use Rattle.xpath_rules.specs.declared.path_error.PathError.{PathError}
 use Rattle.xpath_rules.specs.declared.path_error.PathError.TheVariants.{Fault, NoMemory}
 use Rattle.xpath_rules.specs.Grammar.{path_text}
-use Rattle.xpath_rules.specs.Reading.{most_path_bytes, Spells, IsBegun, IsLongestFront, IsPlace}
+use Rattle.xpath_rules.specs.Reading.{Spells, IsBegun, IsLongestFront, IsPlace}
 use Rattle.xpath_rules.specs.Machine.{step, run, live, count_behind, path_at_end, path_or_place, read_path_of}
 use Rattle.xpath_rules.specs.Answers.{ButForMemory, IfFault, IsNoPath}
 use Rattle.xpath_rules.proofs.Names.{le_test}

@@ -10,6 +10,7 @@ use Rattle.std.specs.Str.Parse.{digits_value}
 use Rattle.std.proofs.lemmas.Str.Parse.{digits_value_short}
 use Rattle.std.proofs.lemmas.Fmt.{digits_decimal, digits_value-decimal, length-decimal-le, decimal_nonempty}
 use Rattle.std.proofs.Math.Nat.{pow-le-pow_right}
+use Rattle.acl_model.specs.Limits.{most_path_bytes}
 use Rattle.acl_model.specs.Ascii.{is_byte, line_feed}
 use Rattle.acl_model.specs.declared.path.Path.{Path}
 use Rattle.acl_model.specs.declared.path.Step.{Step}
@@ -21,7 +22,7 @@ use Rattle.xpath_rules.specs.declared.quote.Quote.{Quote}
 use Rattle.xpath_rules.specs.declared.quote.Quote.TheVariants.{Double, Single}
 use Rattle.xpath_rules.specs.Grammar.{WrittenOperand, WrittenCmp, WrittenPred, WrittenStep, spaces, slash_text, test_text, is_test, body_text, is_way, is_attribute, is_dot, sign_text, quote_byte, is_quotable, minus_text, signed_number, operand_text, is_operand, operand_of, cmp_text, is_cmp, cmp_of, pred_text, is_pred, pred_of, step_text, is_step, step_of, path_text, is_path, path_of}
 use Rattle.xpath_rules.specs.Canonical.{quote_for, canonical_number, canonical_operand, canonical_cmp, canonical_pred, canonical_step, canonical_text}
-use Rattle.xpath_rules.specs.Reading.{most_path_bytes, Spells}
+use Rattle.xpath_rules.specs.Reading.{Spells}
 use Rattle.xpath_rules.specs.Machine.{read_path_of}
 use Rattle.xpath_rules.specs.Answers.{CanBeRead}
 use Rattle.xpath_rules.proofs.Names.{and_left, and_right, and_both, le_test, test_le, test_lt, lt_test, own}

@@ -1,9 +1,10 @@
 -- What `read_path` answers, in words that its clauses share. This project's own.
 use Rattle.std.specs.Prelude.{◌≡◌, ℕ, ◌<◌, Result, Ok, Err, List, length}
+use Rattle.acl_model.specs.Limits.{most_path_bytes}
 use Rattle.acl_model.specs.declared.path.Path.{Path}
 use Rattle.xpath_rules.specs.declared.path_error.PathError.{PathError}
 use Rattle.xpath_rules.specs.declared.path_error.PathError.TheVariants.{Fault, NoMemory}
-use Rattle.xpath_rules.specs.Reading.{most_path_bytes, Spells}
+use Rattle.xpath_rules.specs.Reading.{Spells}
 use Rattle.xpath_rules.specs.Machine.{read_path_of}
 
 -- The answer is the wanted one, but that NoMemory may stand in its place.

@@ -12,6 +12,7 @@ use Rattle.std.specs.Option.{option_map}
 use Rattle.std.specs.Str.Parse.{digits_value}
 use lib.ListN.{replicate}
 use lib.IntN.{neg_ℤ}
+use Rattle.acl_model.specs.Limits.{most_literal_bytes, most_digits}
 use Rattle.acl_model.specs.Ascii.{is_byte, line_feed, space, asterisk, hyphen, full_stop, slash}
 use Rattle.acl_model.specs.Names.{is_name}
 use Rattle.acl_model.specs.declared.path.Path.{Path}
@@ -141,9 +142,9 @@ operand_text WrittenOperand.TheUser = capital_u ∷ capital_s ∷ capital_e ∷ 
 -- A literal has at most 255 bytes, none of them its quote or a line feed; a number has 1 to 18
 -- digits.
 abbrev pub is_operand : WrittenOperand → Bool
-is_operand (WrittenOperand.Quoted quote bytes) = list_all (is_quotable quote) bytes && nat_le (length bytes) 255
+is_operand (WrittenOperand.Quoted quote bytes) = list_all (is_quotable quote) bytes && nat_le (length bytes) most_literal_bytes
 is_operand (WrittenOperand.Digits negative digits) =
-    list_all is_ascii_digit digits && (nat_lt 0 (length digits) && nat_le (length digits) 18)
+    list_all is_ascii_digit digits && (nat_lt 0 (length digits) && nat_le (length digits) most_digits)
 is_operand WrittenOperand.TheUser = true
 
 -- What an operand means for a user: the bytes of a literal, the value of a number, the bytes of the

@@ -4,6 +4,7 @@
 use Rattle.std.specs.Prelude.{ℕ, ◌+◌, ◌-◌, ◌*◌, suc, min, Bool, true, false, not, nat_eq, nat_le, nat_lt, ◌&&◌, if◌then◌else◌, Option, Some, None, Result, Ok, Err, List, [], ◌∷◌, ◌++◌, length}
 use Rattle.std.specs.Char.{is_ascii_digit}
 use Rattle.std.specs.Option.{option_map, option_and_then}
+use Rattle.acl_model.specs.Limits.{most_path_bytes, most_name_bytes, most_literal_bytes, most_digits}
 use Rattle.acl_model.specs.Ascii.{space, asterisk, hyphen, full_stop, slash}
 use Rattle.acl_model.specs.Names.{begins_name, continues_name}
 use Rattle.acl_model.specs.declared.path.Path.{Path}
@@ -29,7 +30,6 @@ use Rattle.xpath_rules.specs.declared.state.Digits.{Digits}
 use Rattle.xpath_rules.specs.declared.state.Next.{Next}
 use Rattle.xpath_rules.specs.Marks.{exclamation_mark, quotation_mark, apostrophe, less_than_sign, equals_sign, greater_than_sign, commercial_at, capital_u, capital_s, capital_e, capital_r, left_bracket, right_bracket}
 use Rattle.xpath_rules.specs.Grammar.{quote_byte, is_quotable, is_dot, signed_number}
-use Rattle.xpath_rules.specs.Reading.{most_path_bytes}
 
 -- ---- tables
 
@@ -65,7 +65,7 @@ longer_test (Named name) b = Named (name ++ b ∷ [])
 -- The test is a name of fewer than 255 bytes.
 abbrev pub has_room : Test → Bool
 has_room Any = false
-has_room (Named name) = nat_lt (length name) 255
+has_room (Named name) = nat_lt (length name) most_name_bytes
 
 -- ---- in a predicate
 
@@ -130,7 +130,7 @@ longer_digits d b = record { negative = d.negative; count = d.count + 1; value =
 
 -- Fewer than 18 digits. Their value is then below 10^17, so the second test refuses nothing.
 abbrev pub takes_digit : Digits → Bool
-takes_digit d = nat_lt d.count 18 && nat_lt d.value 100000000000000000
+takes_digit d = nat_lt d.count most_digits && nat_lt d.value 100000000000000000
 
 -- The operand that digits are. Their value is below 10^18, so the least of the two is the value.
 abbrev pub number : Digits → Operand
@@ -156,7 +156,7 @@ inside_rows user (Inside.WaySlashes way) = test_rows (way_step way Descendant)
 inside_rows user (Inside.BehindAt way) =
     some begins_name (λ b. Next.More (Inside.InAttribute way (b ∷ []))) ∷ []
 inside_rows user (Inside.InAttribute way name) =
-    some (λ b. continues_name b && nat_lt (length name) 255)
+    some (λ b. continues_name b && nat_lt (length name) most_name_bytes)
     (λ b. Next.More (Inside.InAttribute way (name ++ b ∷ [])))
     ∷ body_rows (record { way = way; attribute = Some name })
 inside_rows user (Inside.BehindBody body) = body_rows body
@@ -171,7 +171,7 @@ inside_rows user (Inside.Greater body) =
 inside_rows user (Inside.BehindSign c) = operand_rows c
 inside_rows user (Inside.InLiteral c quote bytes) =
     byte (quote_byte quote) (Next.More (Inside.BehindOperand (compared_pred c (Text bytes))))
-    ∷ some (λ b. is_quotable quote b && nat_lt (length bytes) 255)
+    ∷ some (λ b. is_quotable quote b && nat_lt (length bytes) most_literal_bytes)
     (λ b. Next.More (Inside.InLiteral c quote (bytes ++ b ∷ [])))
     ∷ []
 inside_rows user (Inside.Minus c) =

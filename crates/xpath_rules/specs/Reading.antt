@@ -1,12 +1,9 @@
 -- Which bytes are a path, and where the others go wrong: by whole texts of the grammar, and by no
 -- reader. This project's own.
 use Rattle.std.specs.Prelude.{◌≡◌, ℕ, ◌≤◌, min, Bool, true, List, ◌++◌, length, take}
+use Rattle.acl_model.specs.Limits.{most_path_bytes}
 use Rattle.acl_model.specs.declared.path.Path.{Path}
 use Rattle.xpath_rules.specs.Grammar.{WrittenStep, path_text, is_path, path_of}
-
--- A path has at most so many bytes.
-abbrev pub most_path_bytes : ℕ
-most_path_bytes = 1024
 
 -- The bytes spell the path for the user: they are the text of a written path, and it means this
 -- path.

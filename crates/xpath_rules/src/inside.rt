@@ -9,6 +9,7 @@ ghost use Rattle.xpath_rules.specs.Machine.{inside_rows, whole_way, bare_pred, c
 use crate::lists::{only, with_last};
 use crate::state::{Body, Compared, Inside, Next, WayLevel};
 use crate::{name_test, operand};
+use acl_model::limits::MOST_NAME_BYTES;
 use acl_model::{
     Axis, Name, Op, Pred, PredStep, Sequence, Test, may_begin_name, may_continue_name,
 };
@@ -175,7 +176,7 @@ fn in_attribute(way: Sequence<PredStep>, name: Name, byte: u8) -> Result<Option<
     ensures { IfOk result (λ next. next ≡
         choose (inside_rows [] (Inside.InAttribute way name)) byte) }
 {
-    if may_continue_name(byte) && name.len() < name_test::MOST_NAME_BYTES {
+    if may_continue_name(byte) && name.len() < MOST_NAME_BYTES {
         return Ok(Some(Next::More(Inside::InAttribute(way, with_last(name, byte)?))));
     }
     let body = Body {

@@ -3,8 +3,9 @@
 //! are the laws.
 
 ghost use Rattle.std.specs.Prelude.{◌≡◌, ℕ, ◌+◌, ◌<◌, ◌≤◌, List, length, take};
+ghost use Rattle.acl_model.specs.Limits.{most_path_bytes};
 ghost use Rattle.acl_model.specs.declared.path.Path.{Path};
-ghost use Rattle.xpath_rules.specs.Reading.{most_path_bytes, Spells, IsBegun, IsPlace};
+ghost use Rattle.xpath_rules.specs.Reading.{Spells, IsBegun, IsPlace};
 ghost use Rattle.xpath_rules.specs.Machine.{read_path_of};
 ghost use Rattle.xpath_rules.specs.Canonical.{canonical_text};
 ghost use Rattle.xpath_rules.specs.Answers.{IsNoPath};

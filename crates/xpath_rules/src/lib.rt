@@ -20,7 +20,7 @@ pub use laws::{
     what_is_spelled_is_read,
 };
 pub use path_error::PathError;
-pub use reading::{MOST_PATH_BYTES, read_path};
+pub use reading::read_path;
 pub use states::{States, count_states};
 pub use writing::write_path;
 

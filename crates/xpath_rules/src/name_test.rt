@@ -4,11 +4,9 @@ ghost use Rattle.std.specs.Prelude.{◌≡◌, IfOk};
 ghost use Rattle.xpath_rules.specs.Machine.{choose, test_rows, longer_test, has_room};
 
 use crate::lists::{only, with_last};
+use acl_model::limits::MOST_NAME_BYTES;
 use acl_model::{Test, may_begin_name};
 use std::alloc::{AllocError, Global};
-
-/// The most bytes of a name.
-pub const MOST_NAME_BYTES: usize = 255;
 
 /// The test that begins with this byte.
 pub fn first_test(alloc: Global, byte: u8) -> Result<Option<Test>, AllocError>

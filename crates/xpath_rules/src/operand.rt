@@ -8,14 +8,9 @@ ghost use Rattle.xpath_rules.specs.Machine.{compared_pred, takes_digit, longer_d
 use crate::lists::with_last;
 use crate::quote::Quote;
 use crate::state::{Body, Compared, Digits, Inside, Next};
+use acl_model::limits::{MOST_DIGITS, MOST_LITERAL_BYTES};
 use acl_model::{Bytes, Cmp, Operand, Pred, Sequence};
 use std::alloc::{AllocError, Global};
-
-/// The most bytes of a literal.
-const MOST_LITERAL_BYTES: usize = 255;
-
-/// The most digits of a number.
-const MOST_DIGITS: u32 = 18;
 
 /// 10^17: fewer than 18 digits are below it.
 const SEVENTEEN_ZEROS: u64 = 100_000_000_000_000_000;

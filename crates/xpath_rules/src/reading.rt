@@ -1,17 +1,16 @@
 //! From bytes to a path: one pass, in which each byte is looked at once.
 
 ghost use Rattle.std.specs.Prelude.{◌≤◌, length, IfOk, OnOk};
-ghost use Rattle.xpath_rules.specs.Reading.{most_path_bytes, Spells, IsPlace};
+ghost use Rattle.acl_model.specs.Limits.{most_path_bytes};
+ghost use Rattle.xpath_rules.specs.Reading.{Spells, IsPlace};
 ghost use Rattle.xpath_rules.specs.Machine.{read_path_of};
 ghost use Rattle.xpath_rules.specs.Answers.{ButForMemory, IfFault, IsNoPath};
 
 use crate::path_error::PathError;
 use crate::state::State;
 use acl_model::Path;
+use acl_model::limits::MOST_PATH_BYTES;
 use std::alloc::Global;
-
-/// The most bytes of a path.
-pub const MOST_PATH_BYTES: u32 = 1024;
 
 /// What the machine makes of the bytes.
 fn path_of(alloc: Global, bytes: &[u8], user: &[u8]) -> Result<Path, PathError>

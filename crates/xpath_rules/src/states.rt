@@ -1,6 +1,7 @@
 //! The three counts of a path: steps, predicate steps and predicates.
 
 ghost use Rattle.std.specs.Prelude.{◌≡◌, ℕ, ◌≤◌, List, length, sum_by};
+ghost use Rattle.acl_model.specs.Limits.{most_path_bytes};
 ghost use Rattle.xpath_rules.specs.Answers.{CanBeRead};
 ghost use Rattle.xpath_rules.specs.Counting.{step_count, pred_count, way_test_count, pred_step_count, in_32_bits};
 
@@ -68,10 +69,10 @@ pub fn count_states(path: &Path) -> States
         → result.preds ≡ pred_count path.now }
 
     // Such a path has at most 1,024 of each.
-    ensures few_steps { (user : List ℕ) → CanBeRead user path.now → result.steps ≤ 1024 }
+    ensures few_steps { (user : List ℕ) → CanBeRead user path.now → result.steps ≤ most_path_bytes }
     ensures few_pred_steps { (user : List ℕ) → CanBeRead user path.now
-        → result.pred_steps ≤ 1024 }
-    ensures few_preds { (user : List ℕ) → CanBeRead user path.now → result.preds ≤ 1024 }
+        → result.pred_steps ≤ most_path_bytes }
+    ensures few_preds { (user : List ℕ) → CanBeRead user path.now → result.preds ≤ most_path_bytes }
 {
     let steps = path.steps.as_slice();
     States {
