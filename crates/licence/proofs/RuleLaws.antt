@@ -6,6 +6,7 @@ use Rattle.std.specs.Cmp.{second_so}
 use Rattle.std.proofs.lemmas.Bool.{true≢false, eqb-true}
 use Rattle.std.proofs.lemmas.Bool.Decides.{nat_tests}
 use Rattle.std.proofs.lemmas.Option.{none-some, cond_some}
+use Rattle.acl_model.specs.Limits.{most_rules}
 use Rattle.acl_model.specs.Ascii.{space, plus, hyphen}
 use Rattle.acl_model.specs.Lines.{cut_at}
 use Rattle.acl_model.specs.declared.path.Path.{Path}
@@ -16,7 +17,7 @@ use Rattle.acl_model.proofs.LineLaws.{cut_at-append, lacks-list_all}
 use Rattle.xpath_rules.specs.Machine.{read_path_of}
 use Rattle.xpath_rules.proofs.Places.{spelled_read, read_within, read_spelled}
 use Rattle.licence.specs.Forms.{Lines, ◌>>=◌}
-use Rattle.licence.specs.BodyText.{sign_byte, rule_text, is_id_byte, is_id, is_known_id, most_rules, WrittenRule, line_of_rule, IsRuleLine}
+use Rattle.licence.specs.BodyText.{sign_byte, rule_text, is_id_byte, is_id, is_known_id, WrittenRule, line_of_rule, IsRuleLine}
 use Rattle.licence.specs.Refusals.{IsLastLine, IsRuleBut, IsNextRule, IsOneTooMany, begins_rule, IsRefusedBehind}
 use Rattle.licence.specs.Body.{sign_of, RuleParts, parts_with_id, rule_line, rule_or_fault, rule_of_parts, rule_too_many, next_rule, is_end}
 use Rattle.licence.specs.declared.fault.LicenceFault.{LicenceFault}

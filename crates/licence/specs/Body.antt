@@ -3,6 +3,7 @@
 use Rattle.std.specs.Prelude.{◌≡◌, ℕ, ◌+◌, nat_eq, nat_le, Bool, List, [], ◌∷◌, ◌++◌, length, codes, Option, Some, None, ok_or, Result, Ok, Err, if◌then◌else◌}
 use Rattle.std.specs.Option.{option_and_then}
 use Rattle.std.specs.Cmp.Lexicographic.{pointwise}
+use Rattle.acl_model.specs.Limits.{most_rules}
 use Rattle.acl_model.specs.Ascii.{space, plus, hyphen}
 use Rattle.acl_model.specs.Lines.{cut_at, lines}
 use Rattle.acl_model.specs.declared.path.Path.{Path}
@@ -11,7 +12,7 @@ use Rattle.acl_model.specs.declared.rule.Sign.{Sign}
 use Rattle.acl_model.specs.declared.rule.Sign.TheVariants.{Grant, Deny}
 use Rattle.xpath_rules.specs.Machine.{read_path_of}
 use Rattle.licence.specs.Forms.{Lines, ◌>>=◌, text_behind, bytes_behind, line_of_form}
-use Rattle.licence.specs.BodyText.{title, root_word, last_line, is_user, is_id, is_known_id, most_rules, are_within_limits}
+use Rattle.licence.specs.BodyText.{title, root_word, last_line, is_user, is_id, is_known_id, are_within_limits}
 use Rattle.licence.specs.Refusals.{begins_rule}
 use Rattle.licence.specs.declared.fault.LicenceFault.{LicenceFault}
 use Rattle.licence.specs.declared.fault.LicenceFault.TheVariants.{BadSeal, BadRule, BadLicence, TooManyRules, TooManyStates, NoMemory}

@@ -4,12 +4,14 @@ use Rattle.std.specs.Char.{is_ascii_alphabetic, is_ascii_digit}
 use Rattle.std.specs.List.{list_all, list_any, concat}
 use Rattle.std.specs.Cmp.Lexicographic.{pointwise}
 use Rattle.hex.specs.Hex.{encode_lower}
+use Rattle.acl_model.specs.Limits.{most_path_bytes, most_steps, most_pred_steps, most_preds, most_id_bytes, most_user_bytes}
+pub use Rattle.acl_model.specs.Limits.{most_rules}
 use Rattle.acl_model.specs.Ascii.{is_byte, are_bytes, space, plus, hyphen, full_stop, underscore, delete}
 use Rattle.acl_model.specs.Lines.{as_line, lines}
 use Rattle.acl_model.specs.declared.rule.Rule.{Rule}
 use Rattle.acl_model.specs.declared.rule.Sign.{Sign}
 use Rattle.acl_model.specs.declared.rule.Sign.TheVariants.{Grant, Deny}
-use Rattle.xpath_rules.specs.Reading.{most_path_bytes, Spells}
+use Rattle.xpath_rules.specs.Reading.{Spells}
 use Rattle.xpath_rules.specs.Canonical.{canonical_text}
 use Rattle.xpath_rules.specs.Counting.{step_count, pred_step_count, pred_count}
 use Rattle.xpath_rules.specs.Answers.{CanBeRead}
@@ -64,7 +66,7 @@ is_user_byte b = nat_le space b && not (nat_eq b delete) && is_byte b
 
 -- A user is 1 to 255 such bytes.
 abbrev pub is_user : List ℕ → Bool
-is_user user = nat_lt 0 (length user) && nat_le (length user) 255 && list_all is_user_byte user
+is_user user = nat_lt 0 (length user) && nat_le (length user) most_user_bytes && list_all is_user_byte user
 
 -- In an id may stand letters and digits of ASCII, '_', '-' and '.'.
 abbrev pub is_id_byte : ℕ → Bool
@@ -72,7 +74,7 @@ is_id_byte b = is_ascii_alphabetic b || is_ascii_digit b || nat_eq b underscore 
 
 -- An id is 1 to 32 such bytes.
 abbrev pub is_id : List ℕ → Bool
-is_id id = nat_lt 0 (length id) && nat_le (length id) 32 && list_all is_id_byte id
+is_id id = nat_lt 0 (length id) && nat_le (length id) most_id_bytes && list_all is_id_byte id
 
 -- The rule has this id.
 abbrev pub has_id : List ℕ → Rule → Bool
@@ -82,15 +84,12 @@ has_id id rule = pointwise nat_eq rule.id id
 abbrev pub is_known_id : List ℕ → List Rule → Bool
 is_known_id id rules = list_any (has_id id) rules
 
--- A licence has at most so many rules.
-abbrev pub most_rules : ℕ
-most_rules = 64
-
 -- The rules have together at most 256 steps, at most 256 predicate steps, and at most 64 predicates.
 abbrev pub are_within_limits : List Rule → Bool
 are_within_limits rules =
-    nat_le (sum_by (λ rule. step_count rule.path) rules) 256 && nat_le (sum_by (λ rule. pred_step_count rule.path) rules) 256
-    && nat_le (sum_by (λ rule. pred_count rule.path) rules) 64
+    nat_le (sum_by (λ rule. step_count rule.path) rules) most_steps
+    && nat_le (sum_by (λ rule. pred_step_count rule.path) rules) most_pred_steps
+    && nat_le (sum_by (λ rule. pred_count rule.path) rules) most_preds
 
 -- ---- which bytes say a licence
 

@@ -1,12 +1,13 @@
 -- Why the lines of a body are refused: always by the first line that may not follow those before it, and by the limits
 -- over all rules only where no line is refused. This project's own.
 use Rattle.std.specs.Prelude.{◌≡◌, ℕ, ◌+◌, ◌<◌, ◌⊎◌, nat_eq, Bool, false, ◌||◌, List, [], ◌∷◌, length, Err, IsTrue}
+use Rattle.acl_model.specs.Limits.{most_rules}
 use Rattle.acl_model.specs.Ascii.{plus, hyphen}
 use Rattle.acl_model.specs.declared.rule.Rule.{Rule}
 use Rattle.acl_model.specs.declared.rule.Sign.{Sign}
 use Rattle.xpath_rules.specs.Machine.{read_path_of}
 use Rattle.licence.specs.Forms.{Lines, HasDigits, NoneFirst}
-use Rattle.licence.specs.BodyText.{title, root_word, user_text, rule_text, last_line, is_user, is_id, is_known_id, most_rules, are_within_limits, Begins}
+use Rattle.licence.specs.BodyText.{title, root_word, user_text, rule_text, last_line, is_user, is_id, is_known_id, are_within_limits, Begins}
 use Rattle.licence.specs.declared.fault.LicenceFault.{LicenceFault}
 use Rattle.licence.specs.declared.fault.LicenceFault.TheVariants.{BadSeal, BadRule, BadLicence, TooManyRules, TooManyStates, NoMemory}
 

@@ -11,6 +11,7 @@ ghost use Rattle.licence.specs.declared.fault.LicenceFault.TheVariants.{BadLicen
 
 use crate::fault::LicenceFault;
 use crate::forms::{read_32_bytes, rest_behind};
+use acl_model::limits::MOST_USER_BYTES;
 use acl_model::next_line;
 
 fn may_stand_in_user(byte: u8) -> bool
@@ -28,7 +29,7 @@ fn all_may_stand_in_user(bytes: &[u8]) -> bool
 fn is_a_user(bytes: &[u8]) -> bool
     ensures { result ≡ is_user bytes.now }
 {
-    !bytes.is_empty() && bytes.len() <= 255 && all_may_stand_in_user(bytes)
+    !bytes.is_empty() && bytes.len() <= MOST_USER_BYTES && all_may_stand_in_user(bytes)
 }
 
 fn read_root(line: &[u8]) -> Option<[u8; 32]>

@@ -5,13 +5,8 @@ ghost use Rattle.xpath_rules.specs.Counting.{step_count, pred_step_count, pred_c
 ghost use Rattle.licence.specs.BodyText.{are_within_limits};
 
 use acl_model::Rule;
+use acl_model::limits::{MOST_PRED_STEPS, MOST_PREDS, MOST_STEPS};
 use xpath_rules::count_states;
-
-const MOST_STEPS: u32 = 256;
-
-const MOST_PRED_STEPS: u32 = 256;
-
-const MOST_PREDS: u32 = 64;
 
 fn count_steps(rules: &[Rule]) -> u32
     ensures { result ≡ in_32_bits (sum_by (λ rule. step_count rule.path) rules.now) }

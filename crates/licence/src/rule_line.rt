@@ -5,6 +5,7 @@ ghost use Rattle.std.specs.List.{list_all};
 ghost use Rattle.licence.specs.BodyText.{is_id_byte, is_id};
 ghost use Rattle.licence.specs.Body.{sign_of, rule_line};
 
+use acl_model::limits::MOST_ID_BYTES;
 use acl_model::{Sign, cut};
 
 /// The parts of the line, each as it stands.
@@ -44,7 +45,7 @@ fn all_may_stand_in_id(bytes: &[u8]) -> bool
 fn is_an_id(bytes: &[u8]) -> bool
     ensures { result ≡ is_id bytes.now }
 {
-    !bytes.is_empty() && bytes.len() <= 32 && all_may_stand_in_id(bytes)
+    !bytes.is_empty() && bytes.len() <= MOST_ID_BYTES && all_may_stand_in_id(bytes)
 }
 
 /// The parts of a rule line, or `None` where it is not of the form.

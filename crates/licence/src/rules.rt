@@ -8,11 +8,10 @@ ghost use Rattle.licence.specs.Body.{rule_of_parts, rule_too_many, next_rule, is
 use crate::fault::LicenceFault;
 use crate::limits::are_within_limits;
 use crate::rule_line::{RuleLine, read_rule_line};
+use acl_model::limits::MOST_RULES;
 use acl_model::{Bytes, Rule, Sequence, next_line};
 use std::alloc::Global;
 use xpath_rules::{PathError, read_path};
-
-const MOST_RULES: usize = 64;
 
 fn is_known_id(id: &[u8], rules: &[Rule]) -> bool
     ensures { result ≡ is_known_id id.now rules.now }
