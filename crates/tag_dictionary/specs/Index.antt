@@ -3,6 +3,7 @@ use Rattle.std.specs.Prelude.{◌≡◌, ℕ, ◌≤◌, nat_eq, true, Option, V
 use Rattle.std.specs.Cmp.Lexicographic.{pointwise}
 use Rattle.std.specs.List.{list_all}
 use Rattle.std.specs.HashMap.{HashMap, get_by}
+use Rattle.acl_model.specs.Limits.{most_names}
 use Rattle.acl_model.specs.Names.{is_name}
 use Rattle.acl_model.specs.Dictionary.{name_number, are_distinct}
 
@@ -13,6 +14,6 @@ number_in numbers name = get_by (λ key. pointwise nat_eq name key.items) number
 -- The map has the number of each name and of nothing else, and the names are at most 256, no two the same.
 pub record IsIndex {A H : Type 0} (numbers : HashMap (Vec ℕ A) ℕ H) (names : List (List ℕ)) : Type 0 where
   pub numbered : (name : List ℕ) → number_in numbers name ≡ name_number names name
-  pub few : length names ≤ 256
+  pub few : length names ≤ most_names
   pub apart : are_distinct names ≡ true
   pub named : list_all is_name names ≡ true

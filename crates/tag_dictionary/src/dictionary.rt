@@ -3,20 +3,19 @@
 ghost use Rattle.std.specs.Prelude.{◌≡◌, ◌↔◌, ◌<◌, ◌≤◌, true, false, [], ◌∷◌, ◌++◌, length, Err, IfOk, OnOk, IsNone, MatchOption, None, Some, ℕ, ◌+◌, ◌≢◌, List, map};
 ghost use Rattle.std.specs.List.{slice_get, concat};
 ghost use Rattle.std.specs.Option.{option_copied, option_map};
+ghost use Rattle.acl_model.specs.Limits.{most_names};
 ghost use Rattle.acl_model.specs.Names.{is_name};
 ghost use Rattle.acl_model.specs.Document.{is_document, is_well_formed, item_well_formed};
 ghost use Rattle.acl_model.specs.Dictionary.{start_names, item_start_names, has_name, name_number, with_name, with_names, dictionary, is_dictionary, spelled_name, dictionary_section};
 ghost use Rattle.tag_dictionary.specs.Reading.{cut_name, may_join, read_names};
 
 use crate::fault::{DictFault, TagFault};
+use acl_model::limits::MOST_NAMES;
 use acl_model::{Bytes, Doc, Element, Item, Name, is_a_name};
 use acl_outside::NoMemory;
 use std::alloc::{AllocError, Global};
 use std::collections::HashMap;
 use std::marker::Model;
-
-/// The most names that a dictionary has.
-const MOST: usize = 256;
 
 /// At most 256 names, each with its number. Contracts see the names in order: a name's number is how many stand
 /// before it.
@@ -42,8 +41,8 @@ impl Dictionary {
     pub fn of_doc(alloc: Global, doc: &Doc) -> Result<Dictionary, TagFault>
         requires { is_document doc.now ≡ true }
         ensures names { IfOk result (λ d. d ≡ dictionary doc.now) }
-        ensures few { OnOk result (length (dictionary doc.now) ≤ 256) }
-        ensures many { result ≡ Err TagFault.TooManyTags → 256 < length (dictionary doc.now) }
+        ensures few { OnOk result (length (dictionary doc.now) ≤ most_names) }
+        ensures many { result ≡ Err TagFault.TooManyTags → most_names < length (dictionary doc.now) }
     {
         let mut dictionary = Dictionary::empty(alloc);
         dictionary.add_element(alloc, &doc.root)?;
@@ -125,7 +124,7 @@ impl Dictionary {
             return Err(DictFault::BadIndex);
         };
         let count = u16::from_be_bytes([*high, *low]);
-        if count == 0 || count > 256 {
+        if count == 0 || usize::from(count) > MOST_NAMES {
             return Err(DictFault::BadIndex);
         }
         Dictionary::read_names(alloc, count, spelled)
@@ -134,7 +133,7 @@ impl Dictionary {
     /// Reads so many names, with nothing behind them.
     fn read_names(alloc: Global, count: u16, bytes: &[u8]) -> Result<Dictionary, DictFault>
         requires some { 1 ≤ count }
-        requires few { count ≤ 256 }
+        requires few { count ≤ most_names }
         ensures count { IfOk result (λ d. length d ≡ count) }
         ensures names { IfOk result (λ d. is_dictionary d ≡ true) }
         ensures bytes { IfOk result (λ d. concat (map spelled_name d) ≡ bytes.now) }
@@ -153,7 +152,7 @@ impl Dictionary {
 
     /// Reads one more name, and gives what stands behind it.
     fn read_name<'a>(&mut self, alloc: Global, bytes: &'a [u8]) -> Result<&'a [u8], DictFault>
-        requires { length self.old < 256 }
+        requires { length self.old < most_names }
         ensures joined { OnOk result (length self.new ≡ length self.old + 1) }
         ensures bytes { IfOk result (λ rest.
             concat (map spelled_name self.old) ++ bytes.now ≡ concat (map spelled_name self.new) ++ rest.now) }
@@ -183,7 +182,7 @@ impl Dictionary {
     pub(crate) fn push(&mut self, alloc: Global, name: &[u8]) -> Result<(), AllocError>
         requires named { is_name name.now ≡ true }
         requires new { has_name self.old name.now ≡ false }
-        requires room { length self.old < 256 }
+        requires room { length self.old < most_names }
         ensures { OnOk result (self.new ≡ self.old ++ (name.now ∷ [])) }
     {
         let number = self.names.len() as u16;
@@ -205,12 +204,12 @@ impl Dictionary {
         requires { is_name name.now ≡ true }
         ensures joined { OnOk result (self.new ≡ with_name self.old name.now) }
         ensures many { result ≡ Err TagFault.TooManyTags
-            → 256 < length (with_name self.old name.now) }
+            → most_names < length (with_name self.old name.now) }
     {
         if self.numbers.contains_key(name) {
             return Ok(());
         }
-        if self.names.len() >= MOST {
+        if self.names.len() >= MOST_NAMES {
             return Err(TagFault::TooManyTags);
         }
         self.push(alloc, name)?;
@@ -224,7 +223,7 @@ impl Dictionary {
         requires formed { is_well_formed is_name element.now ≡ true }
         ensures joined { OnOk result (self.new ≡ with_names self.old (start_names element.now)) }
         ensures many { result ≡ Err TagFault.TooManyTags
-            → 256 < length (with_names self.old (start_names element.now)) }
+            → most_names < length (with_names self.old (start_names element.now)) }
     {
         self.add(alloc, element.name.as_slice())?;
         for item in element.items.as_slice() {
@@ -240,7 +239,7 @@ impl Dictionary {
         requires formed { item_well_formed is_name item.now ≡ true }
         ensures joined { OnOk result (self.new ≡ with_names self.old (item_start_names item.now)) }
         ensures many { result ≡ Err TagFault.TooManyTags
-            → 256 < length (with_names self.old (item_start_names item.now)) }
+            → most_names < length (with_names self.old (item_start_names item.now)) }
     {
         match item {
             Item::Text(_) => Ok(()),

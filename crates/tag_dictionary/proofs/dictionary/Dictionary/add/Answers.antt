@@ -12,8 +12,8 @@ returns-then-contains_key-clause-joined c =
     sym (with_name-there c.args.self.now c.args.name.now there)
 
 -- the name is new, and there is no room
-pub returns-then-len-ge-MOST-clause-many : goal.returns-then-len-ge-MOST-clause-many
-returns-then-len-ge-MOST-clause-many c = λ _.
+pub returns-then-len-ge-MOST_NAMES-clause-many : goal.returns-then-len-ge-MOST_NAMES-clause-many
+returns-then-len-ge-MOST_NAMES-clause-many c = λ _.
     let had = number_in-is_some c.self.inside.numbers c.self.inside.names.items c.self.invariant c.args.name.now in
     let absent : has_name c.args.self.now c.args.name.now ≡ false = cc in
     let grown = with_name-new c.args.self.now c.args.name.now absent in
