@@ -1,5 +1,6 @@
 -- What is answered for the bytes of a source, and what is taken from it. This project's own.
 use Rattle.std.specs.Prelude.{◌≡◌, ℕ, ◌<◌, nat_le, Bool, true, false, if◌then◌else◌, Option, Some, None, Result, Ok, Err, List, length, drop}
+pub use Rattle.acl_model.specs.Limits.{most_document_bytes}
 use Rattle.acl_model.specs.Lines.{lines}
 use Rattle.acl_model.specs.declared.document.Doc.{Doc}
 use Rattle.esis_lines.specs.declared.doc_fault.DocFault.{DocFault}
@@ -7,10 +8,6 @@ use Rattle.esis_lines.specs.declared.doc_fault.DocFault.TheVariants.{BadLine, Un
 use Rattle.esis_lines.specs.DocumentText.{IsDocumentText}
 use Rattle.esis_lines.specs.Machine.{read_doc_of}
 use Rattle.esis_lines.specs.Refusals.{IsRefused}
-
--- The text of a document has at most so many bytes as it stands in a source: 32 MiB.
-abbrev pub most_document_bytes : ℕ
-most_document_bytes = 33554432
 
 -- what the bytes mean, where they are within a limit
 abbrev pub answer_within : ℕ → List ℕ → Result Doc DocFault

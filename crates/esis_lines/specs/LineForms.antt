@@ -2,6 +2,7 @@
 -- the ESIS line form.
 use Rattle.std.specs.Prelude.{ℕ, Bool, false, nat_eq, nat_lt, ◌&&◌, ◌||◌, List, [], ◌∷◌, length, codes, if◌then◌else◌}
 use Rattle.std.specs.List.{list_any}
+use Rattle.acl_model.specs.Limits.{most_name_bytes}
 use Rattle.acl_model.specs.Ascii.{left_parenthesis, right_parenthesis, hyphen, capital_a}
 use Rattle.acl_model.specs.Document.{is_type}
 use Rattle.acl_model.specs.Names.{is_spelled_as_name}
@@ -95,4 +96,5 @@ name_in l = if is_attribute l then attribute_name (argument l) else argument l
 
 -- A line that has a name has one of more than 255 bytes.
 abbrev pub has_long_name : List ℕ → Bool
-has_long_name l = (is_start l || is_end l || is_attribute l) && nat_lt 255 (length (name_in l))
+has_long_name l =
+    (is_start l || is_end l || is_attribute l) && nat_lt most_name_bytes (length (name_in l))

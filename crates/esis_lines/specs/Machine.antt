@@ -3,6 +3,7 @@
 -- be refused, by the cause that comes first, and does nothing else. This project's profile of the ESIS line form.
 use Rattle.std.specs.Prelude.{ℕ, ◌+◌, Bool, true, false, nat_eq, nat_le, nat_lt, ◌||◌, if◌then◌else◌, Result, Ok, Err, List, [], ◌∷◌, ◌++◌, length}
 use Rattle.std.specs.Cmp.Lexicographic.{pointwise}
+use Rattle.acl_model.specs.Limits.{most_name_bytes, most_attributes, most_open_elements}
 use Rattle.acl_model.specs.Ascii.{left_parenthesis, right_parenthesis, hyphen, capital_a}
 use Rattle.acl_model.specs.Document.{is_type}
 use Rattle.acl_model.specs.Lines.{lines}
@@ -40,7 +41,9 @@ says_closing Line.Closes = true
 -- a line of this name, of which the form and then the length are looked at
 abbrev pub with_name : ℕ → List ℕ → Line → Result Line DocFault
 with_name number name said =
-    if is_spelled_as_name name then (if nat_le (length name) 255 then Ok said else Err (NameTooLong number)) else Err (BadLine number)
+    if is_spelled_as_name name
+    then (if nat_le (length name) most_name_bytes then Ok said else Err (NameTooLong number))
+    else Err (BadLine number)
 
 -- an attribute, of which the type and then the name are looked at
 abbrev pub with_attribute : ℕ → List ℕ → Result Line DocFault
@@ -99,7 +102,7 @@ state_with_element e (o ∷ around) = State.Inside [] (with_item (Child e) o ∷
 -- An element starts with the waiting attributes, where the root has not ended and fewer than 255 elements are open.
 abbrev pub state_after_start : ℕ → List ℕ → State → Result State DocFault
 state_after_start number name (State.Inside waiting opened) =
-    if nat_lt (length opened) 255
+    if nat_lt (length opened) most_open_elements
     then Ok (State.Inside [] (record { name = name; attributes = waiting; items = [] } ∷ opened))
     else Err (TooDeep number)
 state_after_start number name (State.After root) = Err (SecondRoot number)
@@ -122,7 +125,8 @@ state_after_text number bytes (State.After root) = Err (Unbalanced number)
 -- An attribute waits, where the root has not ended and fewer than 65,535 others wait.
 abbrev pub state_after_attribute : ℕ → List ℕ → State → Result State DocFault
 state_after_attribute number raw (State.Inside waiting opened) =
-    if nat_lt (length waiting) 65535 then Ok (State.Inside (waiting ++ raw ∷ []) opened) else Err (TooManyAttributes number)
+    if nat_lt (length waiting) most_attributes
+    then Ok (State.Inside (waiting ++ raw ∷ []) opened) else Err (TooManyAttributes number)
 state_after_attribute number raw (State.After root) = Err (SecondRoot number)
 
 -- All lines were written, where no element is open and no attribute waits.

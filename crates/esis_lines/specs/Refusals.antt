@@ -4,6 +4,7 @@
 use Rattle.std.specs.Prelude.{◌≡◌, ℕ, ◌+◌, Bool, true, false, not, nat_eq, nat_le, nat_lt, ◌&&◌, ◌||◌, Option, Some, None, List, [], ◌∷◌, ◌++◌, length, reverse, if◌then◌else◌, ◌⊎◌}
 use Rattle.std.specs.Cmp.Lexicographic.{pointwise}
 use Rattle.std.specs.List.{list_any}
+use Rattle.acl_model.specs.Limits.{most_attributes, most_open_elements}
 use Rattle.esis_lines.specs.declared.doc_fault.DocFault.{DocFault}
 use Rattle.esis_lines.specs.declared.doc_fault.DocFault.TheVariants.{BadLine, Unsupported, Unbalanced, NoRoot, SecondRoot, TooDeep, NameTooLong, InputTooLong, SourceFault, TooManyAttributes, NoMemory}
 use Rattle.esis_lines.specs.LineForms.{argument, first_byte, is_start, is_end, is_text, is_attribute, is_closing, is_unsupported, is_of_form, has_long_name}
@@ -72,8 +73,8 @@ causes before l =
     ∷ (has_long_name l, NameTooLong number)
     ∷ ((is_start l || is_attribute l) && has_ended before, SecondRoot number)
     ∷ (is_unbalanced before l, Unbalanced number)
-    ∷ (is_start l && nat_le 255 (length (open_names before)), TooDeep number)
-    ∷ (is_attribute l && nat_le 65535 (waiting_count before), TooManyAttributes number)
+    ∷ (is_start l && nat_le most_open_elements (length (open_names before)), TooDeep number)
+    ∷ (is_attribute l && nat_le most_attributes (waiting_count before), TooManyAttributes number)
     ∷ []
 
 -- the table of causes behind the last line

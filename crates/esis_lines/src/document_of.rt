@@ -1,7 +1,8 @@
 //! From bytes to a document: a line at a time goes from the front of the bytes into the machine.
 
 ghost use Rattle.std.specs.Prelude.{◌≤◌, length};
-ghost use Rattle.esis_lines.specs.Answers.{ButForMemory, most_document_bytes};
+ghost use Rattle.acl_model.specs.Limits.{most_document_bytes};
+ghost use Rattle.esis_lines.specs.Answers.{ButForMemory};
 ghost use Rattle.esis_lines.specs.Machine.{read_doc_of};
 
 use crate::doc_fault::DocFault;

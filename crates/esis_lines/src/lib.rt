@@ -21,7 +21,7 @@ pub use laws::{
     what_is_written_is_read,
 };
 pub use output::write_doc;
-pub use reading::{MOST_DOCUMENT_BYTES, read_doc};
+pub use reading::read_doc;
 
 #[cfg(test)]
 mod reading_tests;

@@ -11,10 +11,8 @@ ghost use Rattle.esis_lines.specs.Machine.{line_of, with_name, with_attribute, f
 ghost use Rattle.esis_lines.specs.CodeValues.{line_or_fault, line_value};
 
 use crate::doc_fault::DocFault;
+use acl_model::limits::MOST_NAME_BYTES;
 use acl_model::{cut, may_begin_name, may_continue_name};
-
-/// The most bytes of a name.
-const MOST_NAME_BYTES: usize = 255;
 
 /// The first bytes of lines that this profile has no use for.
 const UNSUPPORTED: &[u8] = b"&DaNEISTspf{}ieo";

@@ -9,18 +9,12 @@ use crate::appending::append;
 use crate::doc_fault::DocFault;
 use crate::line::Line;
 use crate::open_element::OpenElement;
+use acl_model::limits::{MOST_ATTRIBUTES, MOST_OPEN_ELEMENTS};
 use acl_model::{Bytes, Doc, Element, Item, Sequence};
 use sqlite_items::Boxed;
 use std::alloc::Global;
 use std::marker::Model;
 use std::mem::replace;
-
-/// The most elements that may be open at once. All recursion over a document is bounded by it: of what is here, only
-/// dropping a document recurses.
-const MOST_OPEN: usize = 255;
-
-/// The most attributes of an element.
-const MOST_ATTRIBUTES: usize = 65_535;
 
 /// What was read so far.
 #[derive(Drop)]
@@ -66,7 +60,8 @@ impl Reader {
         if self.root.is_some() {
             return Err(DocFault::SecondRoot { line: number });
         }
-        if self.opened.len() >= MOST_OPEN {
+        // This bounds all recursion over a document: of what is here, dropping one recurses.
+        if self.opened.len() >= usize::from(MOST_OPEN_ELEMENTS) {
             return Err(DocFault::TooDeep { line: number });
         }
         let attributes = replace(&mut self.waiting, Vec::new(alloc));

@@ -2,19 +2,18 @@
 
 ghost use Rattle.std.specs.Prelude.{◌≡◌, ◌+◌, true, is_some, IfSome, IfOk, OnOk};
 ghost use Rattle.std.specs.Io.KnownBytes.{IsAtEnd};
+ghost use Rattle.acl_model.specs.Limits.{most_document_bytes};
 ghost use Rattle.acl_model.specs.Document.{is_document};
 ghost use Rattle.acl_outside.specs.Outside.{CountsWhere, NotFallen, TakesAtMost};
-ghost use Rattle.esis_lines.specs.Answers.{IfAboutBytes, IsTrueAnswer, TakesUpTo, answer_within, is_source_fault, most_document_bytes};
+ghost use Rattle.esis_lines.specs.Answers.{IfAboutBytes, IsTrueAnswer, TakesUpTo, answer_within, is_source_fault};
 
 use crate::doc_fault::DocFault;
 use crate::document_of::document_of;
 use crate::input::{ReadAllFault, read_all};
 use acl_model::Doc;
+use acl_model::limits::MOST_DOCUMENT_BYTES;
 use acl_outside::Source;
 use std::alloc::Global;
-
-/// The most bytes that the text of a document may have as it stands in a source.
-pub const MOST_DOCUMENT_BYTES: u32 = 33_554_432;
 
 /// Reads a source to its end as a document. Where it gives more than `MOST_DOCUMENT_BYTES`, one byte
 /// more is taken. What is answered is a document also where the source doesn't tell its bytes.
