@@ -1,6 +1,6 @@
--- A small document with and without an attribute, the events that spell it, and predicates at its
--- root, whose closes are worked out by hand. This project's own.
-use Rattle.std.specs.Prelude.{ℕ, true, Some, None, List, [], ◌∷◌, ◌++◌, codes}
+-- Small documents, the events that spell them, and predicates at their elements, whose closes are
+-- worked out by hand. This project's own.
+use Rattle.std.specs.Prelude.{ℕ, true, false, Some, None, List, [], ◌∷◌, ◌++◌, replicate, codes}
 use Rattle.acl_model.specs.declared.document.Doc.{Doc}
 use Rattle.acl_model.specs.declared.document.Element.{Element}
 use Rattle.acl_model.specs.declared.document.Item.TheVariants as item
@@ -14,6 +14,8 @@ use Rattle.acl_model.specs.declared.path.Test.TheVariants as test
 use Rattle.acl_walk.specs.Pieces.{piece_of}
 use Rattle.acl_walk.specs.declared.event.Event.{Event}
 use Rattle.acl_walk.specs.declared.event.Event.TheVariants.{Begin, Attr, HeadEnd, Text, Finish, End}
+
+-- ---- predicates at a root
 
 -- the names r, p and x
 abbrev pub small_names : List (List ℕ)
@@ -79,3 +81,72 @@ x_is text = record {
 -- [@Id]
 abbrev pub has_id : Pred
 has_id = record { way = []; attribute = Some (codes "Id"); cmp = None }
+
+-- ---- an attribute in two pieces
+
+-- so many letters a
+abbrev pub letters : ℕ → List ℕ
+letters n = replicate n 97
+
+-- (r, )r, with the attribute Ax CDATA, whose value is 257 letters: 265 bytes
+abbrev pub long : Doc
+long = record {
+  root = record {
+    name = codes "r";
+    attributes = (codes "x CDATA " ++ letters 257) ∷ [];
+    items = [];
+  };
+}
+
+-- its events: the first piece has the first 256 bytes, 248 letters among them, and the last one has 9
+abbrev pub long_events : List Event
+long_events =
+    Begin 0 [] ∷ Attr (piece_of (codes "x CDATA " ++ letters 248) false)
+    ∷ Attr (piece_of (letters 9) true) ∷ HeadEnd ∷ Finish 0 ∷ End ∷ []
+
+-- [@x = ..], with this text
+abbrev pub attribute_is : List ℕ → Pred
+attribute_is text = record {
+  way = [];
+  attribute = Some (codes "x");
+  cmp = Some (record { op = Eq; operand = operand.Text text });
+}
+
+-- ---- bearers below the root
+
+-- the names r, a and b
+abbrev pub nested_names : List (List ℕ)
+nested_names = codes "r" ∷ codes "a" ∷ codes "b" ∷ []
+
+-- (b, )b
+abbrev pub nested_b : Element
+nested_b = record { name = codes "b"; attributes = []; items = [] }
+
+-- (a, (b, )b, )a
+abbrev pub nested_a : Element
+nested_a = record { name = codes "a"; attributes = []; items = item.Child nested_b ∷ [] }
+
+-- (a, )a
+abbrev pub empty_a : Element
+empty_a = record { name = codes "a"; attributes = []; items = [] }
+
+-- (r, (a, (b, )b, )a, (a, )a, )r
+abbrev pub nested : Doc
+nested = record {
+  root = record {
+    name = codes "r";
+    attributes = [];
+    items = item.Child nested_a ∷ item.Child empty_a ∷ [];
+  };
+}
+
+-- its events
+abbrev pub nested_events : List Event
+nested_events =
+    Begin 0 (0 ∷ 1 ∷ 2 ∷ []) ∷ HeadEnd
+    ∷ Begin 1 (0 ∷ 1 ∷ 2 ∷ []) ∷ HeadEnd ∷ Begin 2 [] ∷ HeadEnd ∷ Finish 2 ∷ Finish 1
+    ∷ Begin 1 [] ∷ HeadEnd ∷ Finish 1 ∷ Finish 0 ∷ End ∷ []
+
+-- [b]
+abbrev pub has_b : Pred
+has_b = record { way = to_child (test.Named (codes "b")) ∷ []; attribute = None; cmp = None }

@@ -1,12 +1,12 @@
 -- A pass in a list that spells a document leads to the Finish of the innermost open element.
-use Rattle.std.proofs.Common.{◌≡◌, ℕ, zero, suc, ◌+◌, ◌-◌, ◌≤◌, Some, List, [], ◌∷◌, ◌++◌, length, map, take, drop, refl, ap, sym, subst, ◌∙◌, append_assoc, arith, length-drop}
+use Rattle.std.proofs.Common.{◌≡◌, ℕ, zero, suc, ◌+◌, ◌-◌, ◌<◌, ◌≤◌, Some, List, [], ◌∷◌, ◌++◌, length, map, take, drop, refl, ap, sym, subst, ◌∙◌, append_assoc, arith, length-drop}
 use Rattle.std.proofs.lemmas.List.{drop-drop}
 use Rattle.acl_bits.specs.declared.piece.Piece.{Piece}
 use Rattle.acl_model.specs.declared.document.Doc.{Doc}
 use Rattle.acl_model.specs.declared.document.Item.{Item}
 use Rattle.acl_model.specs.declared.document.Element.{Element}
 use Rattle.acl_walk.specs.Nesting.{IsInnermost, tags_after}
-use Rattle.acl_walk.specs.Open.{OpenPlace, next_place, with_child, open_after, open_behind, open_at, tags_of, places_of}
+use Rattle.acl_walk.specs.Open.{OpenPlace, next_place, with_child, open_after, open_behind, open_at, tags_of, tags_at, places_of}
 use Rattle.acl_walk.specs.OpenLaws.{tags_of-with_child, places_of-with_child, places_of-append, tags_of-open_after, open_behind-onward}
 use Rattle.acl_walk.specs.Passes.{IsPass}
 use Rattle.acl_walk.specs.Spelling.{SpellsAttributes, no_attribute, an_attribute, SpellsElement, an_element, SpellsItems, no_item, a_text, a_child, Spells, a_document}
@@ -181,10 +181,13 @@ finish_there list old steps tag is =
 
 -- Where the Finish is reached, a pass leads there.
 pass_by : (list : List Event) (old new : ℕ) (element : OpenPlace) (up : List OpenPlace) → open_at list old ≡ element ∷ up
-    → (r : Reaches (open_at list old) (drop old list) 0 element.tag (tags_of up) (places_of (element ∷ up))) → new ≡ old + r.steps → IsPass list old new element up
+    → (r : Reaches (open_at list old) (drop old list) 0 element.tag (tags_of up) (places_of (element ∷ up))) → new ≡ old + r.steps → IsPass list old new
 pass_by list old new element up is r place =
     let behind : open_at list new ≡ open_behind (open_at list old) (take r.steps (drop old list)) = open_behind-onward [] list old r.steps new place in
     record {
+      element = element;
+      up = up;
+      innermost = is;
       onward = omega (arith, place);
       finish = record {
         there = subst (λ k. drop k list ≡ Finish element.tag ∷ drop (k + 1) list) (sym place) (finish_there list old r.steps element.tag r.finish);
@@ -204,11 +207,26 @@ pass_place : (list : List Event) (old new steps tag : ℕ) → drop new list ≡
 pass_place list old new steps tag found is =
     same_place list new (old + steps) (Finish tag) (drop (suc steps) (drop old list)) (found ∙ is) (sym (drop-drop steps old list) ∙ is)
 
--- A pass leads to the Finish of the innermost open element.
+-- A pass leads to the Finish of this element, the innermost one that is open.
 pub is_pass : (names : List (List ℕ)) (d : Doc) (list : List Event) (old new : ℕ) (element : OpenPlace) (up : List OpenPlace) → length names ≤ 256
-    → Spells names (Some d) list → open_at list old ≡ element ∷ up → PassesTo (tags_of (element ∷ up)) list old new → IsPass list old new element up
+    → Spells names (Some d) list → open_at list old ≡ element ∷ up → PassesTo (tags_of (element ∷ up)) list old new → IsPass list old new
 is_pass names d list old new element up few spells is passes =
     let r : Reaches (open_at list old) (drop old list) 0 element.tag (tags_of up) (places_of (element ∷ up)) =
     reaches [] (open_at list old) element.tag (tags_of up) (places_of (element ∷ up)) (drop old list) (ap tags_of is) (ap places_of is)
     (finishes_from [] list old (finishes_document names d list spells)) in
     pass_by list old new element up is r (pass_place list old new r.steps element.tag (passes ∙ r.found) r.finish)
+
+-- the same, where these elements are open, at least one
+is_pass_among : (names : List (List ℕ)) (d : Doc) (list : List Event) (old new : ℕ) (elements : List OpenPlace) → length names ≤ 256 → Spells names (Some d) list
+    → 0 < length elements → open_at list old ≡ elements → PassesTo (tags_of elements) list old new → IsPass list old new
+is_pass_among names d list old new [] few spells some is passes = absurd (omega (arith, some))
+is_pass_among names d list old new (element ∷ up) few spells some is passes = is_pass names d list old new element up few spells is passes
+
+-- Where some element is open, a pass leads to the Finish of the innermost one.
+pub pass_where_open : (names : List (List ℕ)) (d : Doc) (list : List Event) (old new : ℕ) → length names ≤ 256 → Spells names (Some d) list
+    → 0 < length (open_at list old) → PassesTo (tags_at list old) list old new → IsPass list old new
+pass_where_open names d list old new few spells some passes = is_pass_among names d list old new (open_at list old) few spells some refl passes
+
+-- Where none is open, a pass leads nowhere.
+pub pass_where_none : (list : List Event) (old new : ℕ) → open_at list old ≡ [] → PassesTo (tags_at list old) list old new → new ≡ old
+pass_where_none list old new none = subst (λ elements. PassesTo (tags_of elements) list old new → new ≡ old) (sym none) (λ stays. stays)

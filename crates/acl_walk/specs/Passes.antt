@@ -5,10 +5,12 @@ use Rattle.acl_walk.specs.Standing.{StandsAt}
 use Rattle.acl_walk.specs.declared.event.Event.{Event}
 use Rattle.acl_walk.specs.declared.event.Event.TheVariants.{Finish}
 
--- A pass leads from the old place of a list to the new one, where the element is the innermost that
--- is open at the old place, and `up` are those around it.
-pub record IsPass (list : List Event) (old new : ℕ) (element : OpenPlace) (up : List OpenPlace)
-    : Type 0 where
+-- A pass leads from the old place of a list, where some element is open, to the new one.
+pub record IsPass (list : List Event) (old new : ℕ) : Type 0 where
+  -- The element is the innermost that is open at the old place, and `up` are those around it.
+  pub element : OpenPlace
+  pub up : List OpenPlace
+  pub innermost : open_at list old ≡ element ∷ up
   -- The new place isn't before the old one.
   pub onward : old ≤ new
   -- The Finish of the element stands at the new place.

@@ -1,7 +1,7 @@
 //! Where predicates are met in a list of events, and where they close. These functions do nothing:
 //! their contracts are the laws.
 
-ghost use Rattle.std.specs.Prelude.{◌≡◌, ℕ, ◌<◌, ◌≤◌, true, Some, is_some, List, [], length, codes};
+ghost use Rattle.std.specs.Prelude.{◌≡◌, ℕ, ◌<◌, ◌≤◌, true, Some, is_some, List, [], ◌∷◌, length, codes};
 ghost use Rattle.std.specs.List.{list_any};
 ghost use Rattle.acl_model.specs.Places.{at};
 ghost use Rattle.acl_model.specs.Predicates.{holds};
@@ -12,6 +12,8 @@ ghost use Rattle.acl_walk.specs.Begun.{begins_at, finishes_at};
 ghost use Rattle.acl_walk.specs.CloseExamples.{small_names, has_p, has_child, x_is, has_id};
 ghost use Rattle.acl_walk.specs.CloseExamples.{small, small_events};
 ghost use Rattle.acl_walk.specs.CloseExamples.{small_with_id, small_events_with_id};
+ghost use Rattle.acl_walk.specs.CloseExamples.{letters, long, long_events, attribute_is};
+ghost use Rattle.acl_walk.specs.CloseExamples.{nested_names, nested, nested_events, has_b};
 ghost use Rattle.acl_walk.specs.Closes.{counted, is_met_at, close};
 ghost use Rattle.acl_walk.specs.Spelling.{Spells};
 ghost use Rattle.acl_walk.specs.TreeEvents.{document_events};
@@ -47,4 +49,21 @@ pub fn closes_of_small_documents()
     ensures at_finish { close small small_events [] (x_is (codes "z")) ≡ Some 8 }
     ensures unmet { close small small_events [] (x_is (codes "y")) ≡ Some 9 }
     ensures at_attribute { close small_with_id small_events_with_id [] has_id ≡ Some 1 }
+{}
+
+/// The close of `[@x = ..]` at the root, whose attribute `x` has a value of 257 letters and comes in
+/// two pieces: with the last piece where the text is the whole value, and with the Finish where it
+/// is one letter shorter. Worked out by hand.
+pub fn closes_of_an_attribute_in_two_pieces()
+    ensures events { document_events small_names long ≡ long_events }
+    ensures at_last_piece { close long long_events [] (attribute_is (letters 257)) ≡ Some 2 }
+    ensures unmet { close long long_events [] (attribute_is (letters 256)) ≡ Some 4 }
+{}
+
+/// The closes of `[b]` at two elements `a` in the root, of which the first has a `b` and the second
+/// none: with the Begin of that `b`, and with the Finish of the second `a`. Worked out by hand.
+pub fn closes_below_the_root()
+    ensures events { document_events nested_names nested ≡ nested_events }
+    ensures at_begin { close nested nested_events (1 ∷ []) has_b ≡ Some 4 }
+    ensures at_own_finish { close nested nested_events (2 ∷ []) has_b ≡ Some 10 }
 {}

@@ -2,7 +2,10 @@
 #![tactic(auto)]
 
 pub use acl_bits::Piece;
-pub use close_laws::{closes_of_small_documents, predicates_close_where_they_are_met};
+pub use close_laws::{
+    closes_below_the_root, closes_of_an_attribute_in_two_pieces, closes_of_small_documents,
+    predicates_close_where_they_are_met,
+};
 pub use document_laws::{
     documents_can_be_walked, elements_begin_once, elements_stand_in_the_list,
     spelled_documents_are_known,

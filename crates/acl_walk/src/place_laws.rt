@@ -1,10 +1,10 @@
 //! Where the elements that are open at a place of a list stand, and where a pass leads. These
 //! functions do nothing: their contracts are the laws.
 
-ghost use Rattle.std.specs.Prelude.{◌≡◌, ℕ, ◌≤◌, Some, List, ◌∷◌, length};
+ghost use Rattle.std.specs.Prelude.{◌≡◌, ℕ, ◌<◌, ◌≤◌, Some, List, [], ◌∷◌, length};
 ghost use Rattle.acl_model.specs.Places.{prefixes};
 ghost use Rattle.acl_model.specs.declared.document.Doc.{Doc};
-ghost use Rattle.acl_walk.specs.Open.{OpenPlace, open_at, tags_of, places_of};
+ghost use Rattle.acl_walk.specs.Open.{OpenPlace, open_at, tags_at, places_of};
 ghost use Rattle.acl_walk.specs.Passes.{IsPass};
 ghost use Rattle.acl_walk.specs.Spelling.{Spells};
 ghost use Rattle.acl_walk.specs.Standing.{PassesTo};
@@ -19,10 +19,11 @@ pub fn open_places_are_prefixes()
 {}
 
 /// In a list that spells a document a pass leads to the Finish of the innermost open element, and
-/// all that it leaves out is inside that element.
+/// all that it leaves out is inside that element. Where no element is open it leads nowhere.
 pub fn passes_lead_to_the_finish()
-    ensures { (names : List (List ℕ)) (d : Doc) (list : List Event) (old new : ℕ)
-        (element : OpenPlace) (up : List OpenPlace)
-        → length names ≤ 256 → Spells names (Some d) list → open_at list old ≡ element ∷ up
-        → PassesTo (tags_of (element ∷ up)) list old new → IsPass list old new element up }
+    ensures finish { (names : List (List ℕ)) (d : Doc) (list : List Event) (old new : ℕ)
+        → length names ≤ 256 → Spells names (Some d) list → 0 < length (open_at list old)
+        → PassesTo (tags_at list old) list old new → IsPass list old new }
+    ensures stays { (list : List Event) (old new : ℕ) → open_at list old ≡ []
+        → PassesTo (tags_at list old) list old new → new ≡ old }
 {}

@@ -1,5 +1,5 @@
-use Rattle.acl_walk.specs.PassLaws.{is_pass}
+use Rattle.acl_walk.specs.PassLaws.{pass_where_open, pass_where_none}
 use Rattle.acl_walk.proofs.place_laws.passes_lead_to_the_finish.Goals as goal
 
 pub returns : goal.returns
-returns c = is_pass
+returns c = record { finish = pass_where_open; stays = pass_where_none }
