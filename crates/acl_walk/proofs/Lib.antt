@@ -6,7 +6,6 @@ pub mod PlaceLaws
 pub mod SpotLaws
 pub mod BoundLaws
 pub mod TextLaws
-pub mod FormLaws
 pub mod WalkableLaws
 pub mod BegunLaws
 pub mod OnceLaws

@@ -26,7 +26,6 @@ mod close_laws;
 mod counting;
 mod document_laws;
 mod event;
-mod form;
 mod laws;
 mod lent;
 mod levels;

@@ -6,9 +6,8 @@ ghost use Rattle.acl_model.specs.Dictionary.{are_distinct, start_names, item_sta
 ghost use Rattle.acl_walk.specs.TreeState.{CanBeWalked, is_known, knows};
 
 use crate::counting::is_short;
-use crate::form::is_view_document;
 use crate::tags::{is_dummy, number_of};
-use acl_model::{Doc, Element, Item, Name};
+use acl_model::{Doc, Element, Item, Name, is_view_document};
 
 /// Whether a document can be walked under the names. The tree is looked through once for its form,
 /// once for its names, and once for the number of its events.
