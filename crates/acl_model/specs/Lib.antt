@@ -20,5 +20,6 @@ pub mod Select
 pub mod Targets
 pub mod Decide
 pub mod Explain
+pub mod Rules
 pub mod View
 pub mod Chain

@@ -1,20 +1,17 @@
 -- The states at an element take just the rules whose paths select it.
-use Rattle.std.proofs.Common.{◌≡◌, ◌≢◌, ℕ, zero, suc, ◌+◌, ◌<◌, ◌≤◌, Bool, true, false, cond, eqb, not, ◌&&◌, ◌||◌, Option, Some, None, List, [], ◌∷◌, ◌++◌, length, refl, ap, sym, subst, ◌∙◌, arith}
+use Rattle.std.proofs.Common.{◌≡◌, ℕ, zero, suc, ◌+◌, ◌<◌, ◌≤◌, Bool, true, false, cond, ◌&&◌, ◌||◌, Some, None, List, [], ◌∷◌, ◌++◌, length, refl, ap, sym, ◌∙◌, arith}
 use Rattle.std.specs.Prelude.{nat_eq}
 use Rattle.std.specs.Cmp.{first_so, second_so}
-use Rattle.std.specs.Cmp.Lexicographic.{pointwise}
-use Rattle.std.specs.List.{list_any, list_all, slice_get, position}
-use Rattle.std.specs.Option.{option_map_or, MatchOption}
+use Rattle.std.specs.List.{list_any, list_all, slice_get}
+use Rattle.std.specs.Option.{option_map_or}
 use Rattle.std.proofs.Math.Bool.{and-true, and-false}
 use Rattle.std.proofs.lemmas.Bool.{true≢false}
 use Rattle.std.proofs.lemmas.Bool.Decides.{nat_tests}
-use Rattle.acl_model.specs.Ascii.{hyphen}
 use Rattle.acl_model.specs.Chain.{Chain, ChainSet, is_virtual_root, leads_below, chain_step, chain_steps, selects, on_chain, chain_at}
-use Rattle.acl_model.specs.Dictionary.{name_number, are_new, are_distinct, has_name}
-use Rattle.acl_model.specs.Document.{is_dummy_name}
+use Rattle.acl_model.specs.Dictionary.{are_distinct}
 use Rattle.acl_model.specs.NameTests.{passes}
 use Rattle.acl_model.specs.Predicates.{holds}
-use Rattle.acl_model.specs.Select.{keeps, select}
+use Rattle.acl_model.specs.Select.{select}
 use Rattle.acl_model.proofs.ChainLaws.{select-chain}
 use Rattle.acl_model.specs.declared.document.Doc.{Doc}
 use Rattle.acl_model.specs.declared.document.Element.{Element}
@@ -23,13 +20,10 @@ use Rattle.acl_model.specs.declared.path.Axis.TheVariants.{Child, Descendant}
 use Rattle.acl_model.specs.declared.path.Pred.{Pred}
 use Rattle.acl_model.specs.declared.path.Step.{Step}
 use Rattle.acl_model.specs.declared.path.Test.{Test}
-use Rattle.acl_model.specs.declared.path.Test.TheVariants.{Any, Named}
 use Rattle.acl_model.specs.declared.rule.Rule.{Rule}
 use Rattle.rule_automata.specs.declared.state.State.{State}
-use Rattle.rule_automata.specs.declared.state.TagTest.{TagTest}
-use Rattle.rule_automata.specs.declared.state.TagTest.TheVariants.{Each, Only, Never}
 use Rattle.rule_automata.specs.Compile.{tag_test, ends_behind, rule_states, states_from, is_empty_of, have_no_predicates}
-use Rattle.rule_automata.specs.Run.{Standing, passes_tag, waits_below, is_taken, selected_rule, goes_on, begun, moved, run, is_rule, is_selected_by}
+use Rattle.rule_automata.specs.Run.{Standing, passes_tag, waits_below, begun, moved, run, is_rule, is_selected_by}
 use Rattle.rule_automata.specs.Meaning.{AreTagsOf}
 use Rattle.rule_automata.proofs.TagLaws.{passes_tag-name}
 

@@ -2,7 +2,7 @@
 use Rattle.std.proofs.Common.{◌≡◌, ℕ, zero, suc, ◌+◌, ◌<◌, ◌≤◌, Bool, true, false, cond, eqb, ltb, not, ◌&&◌, ◌||◌, Option, Some, None, List, [], ◌∷◌, ◌++◌, length, length-append, get_or, drop, drop-cons, add-one, refl, ap, sym, ◌∙◌, arith}
 use Rattle.std.specs.Bool.{then_some}
 use Rattle.std.specs.List.{slice_get}
-use Rattle.std.specs.Option.{option_map_or, is_none}
+use Rattle.std.specs.Option.{option_map_or}
 use Rattle.std.proofs.lemmas.Bool.Decides.{nat_tests}
 use Rattle.std.proofs.lemmas.List.{drop_all, append-nil, append_assoc}
 use Rattle.std.proofs.lemmas.List.Sums.{sum_by-cons}
@@ -10,11 +10,12 @@ use Rattle.std.proofs.lemmas.Option.{slice_get-get_or}
 use Rattle.acl_bits.specs.Row.{row_of, is_member}
 use Rattle.acl_bits.specs.RowLaws.{row_of-same, is_member-row_of}
 use Rattle.acl_model.specs.Explain.{is_same_sign}
+use Rattle.acl_model.specs.Rules.{numbers_of, numbers_of_sign}
 use Rattle.acl_model.specs.declared.path.Step.{Step}
 use Rattle.acl_model.specs.declared.rule.Rule.{Rule}
 use Rattle.acl_model.specs.declared.rule.Sign.{Sign}
 use Rattle.rule_automata.specs.declared.state.State.{State}
-use Rattle.rule_automata.specs.Compile.{tag_test, ends_behind, rule_states, states_from, numbers_of_sign, steps_in, is_closed}
+use Rattle.rule_automata.specs.Compile.{tag_test, ends_behind, rule_states, states_from, steps_in, is_closed}
 
 -- a rule ends where no step is behind
 ends_where_last : (rule : ℕ) (steps : List Step) (k : ℕ) → k < length steps → ends_behind rule (drop (k + 1) steps) ≡ then_some (eqb (k + 1) (length steps)) rule
@@ -141,6 +142,7 @@ within_or_none sign rules n m past =
     ] refl
 
 pub numbers-all : (sign : Sign) (rules : List Rule) (n : ℕ) → length rules ≤ n → numbers_before sign rules n ≡ numbers_of_sign sign rules
+unfolding row_of numbers_of
 numbers-all sign rules n past = row_of-same (λ m. ltb m n && has_sign sign rules m) (has_sign sign rules) (λ m small. within_or_none sign rules n m past)
 
 pub ruleset number_steps = (numbers-none, numbers-all)

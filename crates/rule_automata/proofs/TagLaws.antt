@@ -1,9 +1,9 @@
 -- A tag passes the test of a step just where the name that it stands for does.
-use Rattle.std.proofs.Common.{◌≡◌, ℕ, zero, suc, ◌+◌, ◌<◌, ◌≤◌, Bool, true, false, cond, eqb, ltb, not, ◌&&◌, ◌||◌, Option, Some, None, List, [], ◌∷◌, ◌++◌, length, refl, ap, sym, subst, ◌∙◌, arith}
+use Rattle.std.proofs.Common.{◌≡◌, ℕ, zero, suc, ◌+◌, ◌<◌, ◌≤◌, Bool, true, false, cond, ltb, not, ◌&&◌, ◌||◌, Option, Some, None, List, [], ◌∷◌, ◌++◌, length, refl, ap, sym, subst, ◌∙◌, arith}
 use Rattle.std.specs.Prelude.{nat_eq}
 use Rattle.std.specs.Cmp.{first_so, second_so}
 use Rattle.std.specs.Cmp.Lexicographic.{pointwise, bytes_decides}
-use Rattle.std.specs.List.{list_any, slice_get, position, position_from, position_or_len}
+use Rattle.std.specs.List.{slice_get, position_from, position_or_len}
 use Rattle.std.specs.Option.{option_map_or, MatchOption}
 use Rattle.std.proofs.Math.Bool.{and-false}
 use Rattle.std.proofs.lemmas.Bool.{true≢false}
@@ -17,8 +17,7 @@ use Rattle.acl_model.specs.Document.{is_dummy_name}
 use Rattle.acl_model.specs.NameTests.{passes}
 use Rattle.acl_model.specs.declared.path.Test.{Test}
 use Rattle.acl_model.specs.declared.path.Test.TheVariants.{Any, Named}
-use Rattle.rule_automata.specs.declared.state.TagTest.{TagTest}
-use Rattle.rule_automata.specs.declared.state.TagTest.TheVariants.{Each, Only, Never}
+use Rattle.rule_automata.specs.declared.state.TagTest.TheVariants.{Only, Never}
 use Rattle.rule_automata.specs.Compile.{tag_test}
 use Rattle.rule_automata.specs.Run.{passes_tag}
 use Rattle.rule_automata.specs.Meaning.{tag_name}

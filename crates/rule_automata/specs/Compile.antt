@@ -1,19 +1,16 @@
 -- The tables of rules: a state for each step of their paths, one rule behind another (VLDB 2004:
 -- each rule is an automaton; the tables are this project's own).
-use Rattle.std.specs.Prelude.{◌≡◌, ◌≤◌, ℕ, ◌+◌, Bool, true, false, is_some, is_none, not, nat_le, ◌&&◌, Option, Some, None, List, [], ◌∷◌, ◌++◌, length, sum_by, if◌then◌else◌}
-use Rattle.std.specs.List.{list_all, slice_get}
+use Rattle.std.specs.Prelude.{◌≡◌, ◌≤◌, ℕ, ◌+◌, Bool, true, false, is_none, not, nat_le, ◌&&◌, Option, Some, None, List, [], ◌∷◌, ◌++◌, length, sum_by, if◌then◌else◌}
+use Rattle.std.specs.List.{list_all}
 use Rattle.std.specs.Option.{option_map_or}
-use Rattle.acl_bits.specs.Row.{row_of}
 use Rattle.acl_model.specs.Dictionary.{name_number}
 use Rattle.acl_model.specs.Document.{is_dummy_name}
-use Rattle.acl_model.specs.Explain.{is_same_sign}
-use Rattle.acl_model.specs.declared.path.Axis.{Axis}
+use Rattle.acl_model.specs.Rules.{numbers_of_sign}
 use Rattle.acl_model.specs.declared.path.Pred.{Pred}
 use Rattle.acl_model.specs.declared.path.Step.{Step}
 use Rattle.acl_model.specs.declared.path.Test.{Test}
 use Rattle.acl_model.specs.declared.path.Test.TheVariants.{Any, Named}
 use Rattle.acl_model.specs.declared.rule.Rule.{Rule}
-use Rattle.acl_model.specs.declared.rule.Sign.{Sign}
 use Rattle.acl_model.specs.declared.rule.Sign.TheVariants.{Grant, Deny}
 use Rattle.rule_automata.specs.declared.state.State.{State}
 use Rattle.rule_automata.specs.declared.state.TagTest.{TagTest}
@@ -50,11 +47,6 @@ abbrev pub states_from : List (List ℕ) → ℕ → List Rule → List State
 states_from names rule [] = []
 states_from names rule (r ∷ rules) =
     rule_states names rule r.path.steps ++ states_from names (rule + 1) rules
-
--- the numbers, from 0, of the rules of a sign
-abbrev pub numbers_of_sign : Sign → List Rule → List ℕ
-numbers_of_sign sign rules =
-    row_of (λ n. option_map_or (λ r. is_same_sign r.sign sign) (slice_get rules n) false)
 
 -- the tables of rules, where tags are numbers of these names
 abbrev pub automata_of : List (List ℕ) → List Rule → Automata

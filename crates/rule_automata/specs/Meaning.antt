@@ -1,10 +1,9 @@
 -- When tags stand for elements. This project's own.
-use Rattle.std.specs.Prelude.{◌≡◌, ℕ, false, nat_eq, Option, Some, List, [], ◌∷◌, if◌then◌else◌}
+use Rattle.std.specs.Prelude.{◌≡◌, ℕ, nat_eq, Option, Some, List, [], ◌∷◌, if◌then◌else◌}
 use Rattle.std.specs.List.{slice_get}
-use Rattle.std.specs.Option.{option_map_or}
-use Rattle.acl_bits.specs.Row.{row_of}
 use Rattle.acl_model.specs.Ascii.{hyphen}
 use Rattle.acl_model.specs.Chain.{Chain, selects}
+use Rattle.acl_model.specs.Rules.{numbers_of}
 use Rattle.acl_model.specs.declared.rule.Rule.{Rule}
 
 -- the tag of a dummy, which is the number of no name
@@ -24,5 +23,4 @@ AreTagsOf names (tag ∷ tags) (e ∷ up) = (tag_name names tag ≡ Some e.name)
 
 -- the numbers, from 0, of the rules whose path selects the first element of the chain
 abbrev pub selecting_rules : List Rule → Chain → List ℕ
-selecting_rules rules chain =
-    row_of (λ n. option_map_or (λ r. selects r.path chain) (slice_get rules n) false)
+selecting_rules rules chain = numbers_of (λ r. selects r.path chain) rules

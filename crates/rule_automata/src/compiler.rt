@@ -4,7 +4,8 @@ ghost use Rattle.std.specs.Prelude.{◌≡◌, ◌≤◌, ◌<◌, ◌+◌, ◌+
 ghost use Rattle.acl_model.specs.Dictionary.{name_number};
 ghost use Rattle.acl_model.specs.Document.{is_dummy_name};
 ghost use Rattle.acl_model.specs.Explain.{is_same_sign};
-ghost use Rattle.rule_automata.specs.Compile.{AreWithinLimits, automata_of, numbers_of_sign, rule_states, tag_test};
+ghost use Rattle.acl_model.specs.Rules.{numbers_of_sign};
+ghost use Rattle.rule_automata.specs.Compile.{AreWithinLimits, automata_of, rule_states, tag_test};
 
 use crate::state::{State, TagTest};
 use crate::tables::Tables;

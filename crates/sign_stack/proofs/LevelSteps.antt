@@ -1,13 +1,10 @@
 -- One level more or less on the way from the innermost level to the root's.
-use Rattle.std.proofs.Common.{◌≡◌, ℕ, zero, suc, cond, ◌+◌, ◌-◌, ◌<◌, ◌≤◌, Option, Some, None, List, [], ◌∷◌, ◌++◌, length, get_or, take, drop, set, reverse, Bool, true, false, refl, ap, sym, subst, ◌∙◌, arith, drop-cons, add-one}
-use Rattle.std.specs.List.{find, slice_get}
+use Rattle.std.proofs.Common.{◌≡◌, ℕ, zero, suc, cond, ◌+◌, ◌-◌, ◌<◌, ◌≤◌, Some, None, List, [], ◌∷◌, ◌++◌, length, get_or, take, drop, set, reverse, true, false, refl, ap, sym, ◌∙◌, arith}
+use Rattle.std.specs.List.{slice_get}
 use Rattle.std.specs.Option.{option_or}
-use Rattle.std.proofs.lemmas.List.{take_more, reverse-append, take-append-drop, take-set, drop-set, drop_all, take_all}
+use Rattle.std.proofs.lemmas.List.{take_more, reverse-append, take-append-drop, take-set, drop-set, drop_all}
 use Rattle.acl_bits.specs.Row.{is_member}
-use Rattle.acl_model.specs.declared.rule.Sign.{Sign}
 use Rattle.sign_stack.specs.declared.level.Level.{Level}
-use Rattle.sign_stack.specs.declared.level.Verdict.{Verdict}
-use Rattle.sign_stack.specs.declared.level.Verdict.TheVariants.{Decided, Unsettled, Inherited}
 use Rattle.sign_stack.specs.Levels.{verdict_at, sign_by, sign_of_levels, rule_at, rule_of_levels, first_rule_of, rule_among, with_level}
 
 module _ {X : Type 0} where

@@ -1,5 +1,5 @@
 -- What is said before all rows are settled holds whatever they come to be.
-use Rattle.std.proofs.Common.{◌≡◌, ◌⊎◌, inl, inr, ℕ, zero, suc, ◌+◌, ◌<◌, ◌≤◌, Bool, true, false, cond, eqb, ◌&&◌, ◌||◌, Option, Some, None, List, [], ◌∷◌, length, get_or, refl, ap, sym, subst, ◌∙◌, arith, map, Any, eq-eqb}
+use Rattle.std.proofs.Common.{◌≡◌, ◌⊎◌, inl, inr, ℕ, suc, Bool, true, false, cond, eqb, ◌||◌, Option, Some, None, List, [], ◌∷◌, refl, ap, sym, subst, ◌∙◌, arith, map, Any, eq-eqb}
 use Rattle.std.specs.Bool.{MatchBool}
 use Rattle.std.specs.List.{list_any, find}
 use Rattle.std.specs.Option.{option_or, is_some, MatchOption}
@@ -11,8 +11,8 @@ use Rattle.acl_model.specs.declared.rule.Sign.TheVariants.{Grant, Deny}
 use Rattle.sign_stack.specs.declared.level.Level.{Level}
 use Rattle.sign_stack.specs.declared.level.Verdict.{Verdict}
 use Rattle.sign_stack.specs.declared.level.Verdict.TheVariants.{Decided, Unsettled, Inherited}
-use Rattle.sign_stack.specs.Levels.{has_rule_of, verdict_at, sign_by, sign_of_levels, rule_at, rule_of_levels}
-use Rattle.sign_stack.specs.Rules.{settled_level, IsOutcome, AreOutcomes, IsUnsettled, IsUnsettledBy, IsHeldUp, AreSettledToDecider}
+use Rattle.sign_stack.specs.Levels.{has_rule_of, sign_by, sign_of_levels, rule_of_levels}
+use Rattle.sign_stack.specs.Rules.{settled_level, AreOutcomes, IsUnsettled, IsUnsettledBy, IsHeldUp, AreSettledToDecider, IsSettledToDecider}
 
 none_is_not_some : {A : Type 0} (x : A) → None ≡ Some x → ⊥
 none_is_not_some x h = subst (λ o. MatchOption o (Unit {0}) (λ _. ⊥)) h tt
@@ -121,6 +121,30 @@ none_is_held_up grants denies (level ∷ levels) is =
     stops_there grants denies level levels (has_rule_of denies level.sure) (has_rule_of denies level.may) (has_rule_of grants level.sure) (has_rule_of grants level.may) (sign_of_levels grants denies levels)
     refl refl refl refl (none_is_held_up grants denies levels) is
 
+-- where each rule that may select surely does, none of these is unsettled
+none_unsettled : (rules : List ℕ) (level : Level) → level.sure ≡ level.may → IsUnsettledBy rules level → ⊥
+none_unsettled rules level same by = true≢false (sym by.2 ∙ sym (ap (λ row. is_member row by.0) same) ∙ by.3)
+
+not_held_up : (grants denies : List ℕ) (levels : List Level) → IsSettledToDecider grants denies levels → IsHeldUp grants denies levels → ⊥
+not_held_up grants denies [] settled held = held
+not_held_up grants denies (level ∷ levels) settled held =
+    stop (has_rule_of denies level.may || has_rule_of grants level.may) (not_held_up grants denies levels) settled.1 held
+  where
+    stop : (b : Bool) → (IsSettledToDecider grants denies levels → IsHeldUp grants denies levels → ⊥) → MatchBool b (Unit {0}) (IsSettledToDecider grants denies levels)
+        → MatchBool b (IsUnsettledBy denies level ⊎ IsUnsettledBy grants level) (IsHeldUp grants denies levels) → ⊥
+    stop true farther rest (inl by) = none_unsettled denies level settled.0 by
+    stop true farther rest (inr by) = none_unsettled grants level settled.0 by
+    stop false farther rest up = farther rest up
+
+some_or_none : (o : Option Sign) → (o ≡ None → ⊥) → is_some o ≡ true
+some_or_none None never = absurd (never refl)
+some_or_none (Some s) never = refl
+
+-- A sign is given where the levels up to the decider are settled.
+pub settled_is_given : (grants denies : List ℕ) (levels : List Level) → IsSettledToDecider grants denies levels → is_some (sign_of_levels grants denies levels) ≡ true
+settled_is_given grants denies levels settled =
+    some_or_none (sign_of_levels grants denies levels) (λ none. not_held_up grants denies levels settled (none_is_held_up grants denies levels none))
+
 -- ---- rules
 
 -- a rule is found where there is one
@@ -137,7 +161,8 @@ farther_rule None None far near true granted d g same = absurd (true≢false (sy
 farther_rule None None far near false true d g same = absurd (true≢false (sym g))
 farther_rule None None far near false false d g same = same
 
-within : (b : Bool) (P Q : Type 0) → (P → Q) → MatchBool b (Unit {0}) P → MatchBool b (Unit {0}) Q
+-- Where nothing is asked, nothing is to be shown; else one follows from the other.
+pub within : (b : Bool) (P Q : Type 0) → (P → Q) → MatchBool b (Unit {0}) P → MatchBool b (Unit {0}) Q
 within true P Q f h = tt
 within false P Q f h = f h
 

@@ -10,15 +10,15 @@ use Rattle.acl_model.specs.Places.{prefixes}
 use Rattle.acl_model.specs.Select.{select}
 use Rattle.acl_model.specs.Decide.{is_deny, is_selected, is_denied, decider, sign_by, sign}
 use Rattle.acl_model.specs.Explain.{is_same_sign, first_rule, explanation_of}
+use Rattle.acl_model.specs.Rules.{numbers_of, numbers_of_sign}
 use Rattle.acl_model.specs.declared.document.Doc.{Doc}
 use Rattle.acl_model.specs.declared.rule.Rule.{Rule}
 use Rattle.acl_model.specs.declared.rule.Sign.{Sign}
 use Rattle.acl_model.specs.declared.rule.Sign.TheVariants.{Grant, Deny}
-use Rattle.sign_stack.specs.declared.level.Level.{Level}
 use Rattle.sign_stack.specs.declared.level.Verdict.{Verdict}
 use Rattle.sign_stack.specs.declared.level.Verdict.TheVariants.{Decided, Unsettled, Inherited}
 use Rattle.sign_stack.specs.Levels.{has_rule_of, first_rule_of, verdict_at, sign_by as settled_sign, sign_of_levels, rule_of_levels}
-use Rattle.sign_stack.specs.Rules.{numbers_of, numbers_of_sign, selecting_row, settled_level, settled_levels}
+use Rattle.sign_stack.specs.Rules.{selecting_row, settled_level, settled_levels}
 
 -- ---- rules by their numbers
 
@@ -76,6 +76,7 @@ first_numbered t s (r ∷ rules) f p a (suc n) few tests keeps =
     (λ k. let next : a + 1 + k ≡ a + suc k = omega arith in ap p next ∙ keeps (suc k)))
 
 numbered_test : (t : Rule → Bool) (rules : List Rule) (k : ℕ) → k < 256 → is_member (numbers_of t rules) (0 + k) ≡ option_map_or t (slice_get rules k) false
+unfolding row_of numbers_of
 numbered_test t rules k small = let same : 0 + k ≡ k = omega arith in ap (is_member (numbers_of t rules)) same ∙ is_member-row_of (λ n. option_map_or t (slice_get rules n) false) k small
 
 numbered_row : (s : Rule → Bool) (rules : List Rule) (k : ℕ) → option_map_or s (slice_get rules (0 + k)) false ≡ option_map_or s (slice_get rules k) false
@@ -83,13 +84,13 @@ numbered_row s rules k = let same : 0 + k ≡ k = omega arith in ap (λ n. optio
 
 -- a row has one of these rules where some rule passes both tests
 has_rule_of-numbers : (t s : Rule → Bool) (rules : List Rule) → length rules ≤ 256 → has_rule_of (numbers_of t rules) (numbers_of s rules) ≡ list_any (λ r. t r && s r) rules
-unfolding row_of
+unfolding numbers_of
 has_rule_of-numbers t s rules few =
     any_numbered t s rules (is_member (numbers_of t rules)) (λ n. option_map_or s (slice_get rules n) false) 0 256 few (numbered_test t rules) (numbered_row s rules)
 
 -- the first of these rules in a row is the first rule that passes both tests
 first_rule_of-numbers : (t s : Rule → Bool) (rules : List Rule) → length rules ≤ 256 → first_rule_of (numbers_of t rules) (numbers_of s rules) ≡ position (λ r. t r && s r) rules
-unfolding row_of
+unfolding numbers_of
 first_rule_of-numbers t s rules few =
     first_numbered t s rules (is_member (numbers_of t rules)) (λ n. option_map_or s (slice_get rules n) false) 0 256 few (numbered_test t rules) (numbered_row s rules)
     ∙ sym (position_from-zero (λ r. t r && s r) rules)

@@ -1,25 +1,14 @@
 -- The rows of a document and its rules, and what rows may come to be. This project's own.
-use Rattle.std.specs.Prelude.{◌≡◌, ◌⊎◌, ℕ, Bool, true, false, ◌||◌, List, [], ◌∷◌, map}
+use Rattle.std.specs.Prelude.{◌≡◌, ◌⊎◌, ℕ, true, false, ◌||◌, List, [], ◌∷◌, map}
 use Rattle.std.specs.Bool.{MatchBool}
-use Rattle.std.specs.List.{slice_get}
-use Rattle.std.specs.Option.{option_map_or}
-use Rattle.acl_bits.specs.Row.{row_of, is_member}
+use Rattle.acl_bits.specs.Row.{is_member}
 use Rattle.acl_model.specs.Places.{prefixes}
 use Rattle.acl_model.specs.Select.{select}
-use Rattle.acl_model.specs.Explain.{is_same_sign}
+use Rattle.acl_model.specs.Rules.{numbers_of}
 use Rattle.acl_model.specs.declared.document.Doc.{Doc}
 use Rattle.acl_model.specs.declared.rule.Rule.{Rule}
-use Rattle.acl_model.specs.declared.rule.Sign.{Sign}
 use Rattle.sign_stack.specs.declared.level.Level.{Level}
 use Rattle.sign_stack.specs.Levels.{has_rule_of}
-
--- the numbers, from 0, of the rules that pass a test
-abbrev pub numbers_of : (Rule → Bool) → List Rule → List ℕ
-numbers_of test rules = row_of (λ n. option_map_or test (slice_get rules n) false)
-
--- the numbers of the rules of a sign
-abbrev pub numbers_of_sign : Sign → List Rule → List ℕ
-numbers_of_sign sign rules = numbers_of (λ r. is_same_sign r.sign sign) rules
 
 -- the numbers of the rules that select a place
 abbrev pub selecting_row : Doc → List Rule → List ℕ → List ℕ
@@ -77,3 +66,13 @@ AreSettledToDecider grants denies (level ∷ levels) (row ∷ rows) =
     × MatchBool (has_rule_of denies row || has_rule_of grants row)
     (Unit {0})
     (AreSettledToDecider grants denies levels rows)
+
+-- From the innermost level up to the first at which one of these rules may select, each rule that
+-- may select there surely does. The levels around that one may be unsettled.
+abbrev pub IsSettledToDecider : List ℕ → List ℕ → List Level → Type 0
+IsSettledToDecider grants denies [] = Unit {0}
+IsSettledToDecider grants denies (level ∷ levels) =
+    (level.sure ≡ level.may)
+    × MatchBool (has_rule_of denies level.may || has_rule_of grants level.may)
+    (Unit {0})
+    (IsSettledToDecider grants denies levels)

@@ -1,16 +1,17 @@
 //! That rows give the signs of a document and the rules that they come from. These functions do
 //! nothing: their contracts are the laws.
 
-ghost use Rattle.std.specs.Prelude.{◌≡◌, ◌≤◌, ℕ, List, Some, None, Any, length, map};
+ghost use Rattle.std.specs.Prelude.{◌≡◌, ◌≤◌, ℕ, List, Some, None, is_some, true, Any, length, map};
 ghost use Rattle.acl_model.specs.Decide.{sign};
 ghost use Rattle.acl_model.specs.Explain.{explanation_of};
+ghost use Rattle.acl_model.specs.Rules.{numbers_of_sign};
 ghost use Rattle.acl_model.specs.declared.document.Doc.{Doc};
 ghost use Rattle.acl_model.specs.declared.rule.Rule.{Rule};
 ghost use Rattle.acl_model.specs.declared.rule.Sign.{Sign};
 ghost use Rattle.acl_model.specs.declared.rule.Sign.TheVariants.{Grant, Deny};
 ghost use Rattle.sign_stack.specs.declared.level.Level.{Level};
 ghost use Rattle.sign_stack.specs.Levels.{sign_of_levels, rule_of_levels};
-ghost use Rattle.sign_stack.specs.Rules.{numbers_of_sign, settled_level, settled_levels, AreOutcomes, AreSettledToDecider, IsHeldUp, IsUnsettled};
+ghost use Rattle.sign_stack.specs.Rules.{settled_level, settled_levels, AreOutcomes, AreSettledToDecider, IsHeldUp, IsSettledToDecider, IsUnsettled};
 
 /// The rows of the rules that select an element and its ancestors give its sign, and the rule that
 /// an explanation tells.
@@ -25,8 +26,8 @@ pub fn rows_give_signs()
 
 /// A sign that is given before all rows are settled holds whatever they come to be. None is given
 /// only where some rule of a level may select there and isn't sure to, and that level is the
-/// innermost at which a rule may select. The rule is right once the levels up to the decider are
-/// settled.
+/// innermost at which a rule may select. So a sign is given, and the rule is right, once the levels
+/// up to the decider are settled.
 pub fn unsettled_rows_are_told()
     ensures sign { (grants denies : List ℕ) (levels : List Level) (rows : List (List ℕ)) (s : Sign)
         → AreOutcomes levels rows → sign_of_levels grants denies levels ≡ Some s
@@ -35,6 +36,9 @@ pub fn unsettled_rows_are_told()
         → sign_of_levels grants denies levels ≡ None → Any IsUnsettled levels }
     ensures held_up { (grants denies : List ℕ) (levels : List Level)
         → sign_of_levels grants denies levels ≡ None → IsHeldUp grants denies levels }
+    ensures given { (grants denies : List ℕ) (levels : List Level)
+        → IsSettledToDecider grants denies levels
+        → is_some (sign_of_levels grants denies levels) ≡ true }
     ensures rule { (grants denies : List ℕ) (levels : List Level) (rows : List (List ℕ))
         → AreSettledToDecider grants denies levels rows
         → rule_of_levels grants denies levels

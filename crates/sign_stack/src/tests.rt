@@ -59,53 +59,76 @@ fn the_nearest_level_with_a_rule_decides(rt: HostRuntime) -> Result<(), Fail> {
     Ok(())
 }
 
-// Rules 0 and 3 grant, 1 and 4 deny. The parent is granted by rule 3 alone.
+/// Rows of a level whose parent is granted by rule 3 alone, where rules 0 and 3 grant, and 1 and 4
+/// deny; and what is said there.
+struct Case<'a> {
+    what: &'a str,
+    sure: &'a [u8],
+    may: &'a [u8],
+    sign: Option<Sign>,
+    rule: u16,
+}
+
+const CASES: [Case<'static>; 7] = [
+    Case {
+        what: "nothing",
+        sure: &[],
+        may: &[],
+        sign: Some(Sign::Grant),
+        rule: 3,
+    },
+    Case {
+        what: "both signs",
+        sure: &[0, 1],
+        may: &[0, 1],
+        sign: Some(Sign::Deny),
+        rule: 1,
+    },
+    Case {
+        what: "two denials",
+        sure: &[1, 4],
+        may: &[1, 4],
+        sign: Some(Sign::Deny),
+        rule: 1,
+    },
+    Case {
+        what: "a denial and what may be",
+        sure: &[4],
+        may: &[0, 1, 4],
+        sign: Some(Sign::Deny),
+        rule: 4,
+    },
+    Case {
+        what: "a grant beside a possible denial",
+        sure: &[0],
+        may: &[0, 4],
+        sign: None,
+        rule: 0,
+    },
+    Case {
+        what: "a grant beside a possible grant",
+        sure: &[3],
+        may: &[0, 3],
+        sign: Some(Sign::Grant),
+        rule: 3,
+    },
+    Case {
+        what: "a possible grant",
+        sure: &[],
+        may: &[0],
+        sign: None,
+        rule: 3,
+    },
+];
+
 #[test]
 fn what_is_not_settled_is_not_said(rt: HostRuntime) -> Result<(), Fail> {
-    for (what, sure, may, sign, rule) in [
-        ("nothing", row(&[]), row(&[]), Some(Sign::Grant), Some(3)),
-        (
-            "both signs",
-            row(&[0, 1]),
-            row(&[0, 1]),
-            Some(Sign::Deny),
-            Some(1),
-        ),
-        (
-            "two denials",
-            row(&[1, 4]),
-            row(&[1, 4]),
-            Some(Sign::Deny),
-            Some(1),
-        ),
-        (
-            "a denial and what may be",
-            row(&[4]),
-            row(&[0, 1, 4]),
-            Some(Sign::Deny),
-            Some(4),
-        ),
-        (
-            "a grant beside a possible denial",
-            row(&[0]),
-            row(&[0, 4]),
-            None,
-            Some(0),
-        ),
-        (
-            "a grant beside a possible grant",
-            row(&[3]),
-            row(&[0, 3]),
-            Some(Sign::Grant),
-            Some(3),
-        ),
-        ("a possible grant", row(&[]), row(&[0]), None, Some(3)),
-    ] {
+    for case in &CASES {
         let mut signs = Signs::new(rt.alloc(), row(&[0, 3]), row(&[1, 4]), 2)?;
         signs.set(1, row(&[3]), row(&[3]));
-        signs.set(2, sure, may);
-        assert_eq!(rt; signs.sign(), sign, "{what}");
-        assert_eq!(rt; signs.decider(), rule, "{what}");
+        signs.set(2, row(case.sure), row(case.may));
+        assert_eq!(rt; signs.sign(), case.sign, "{}", case.what);
+        assert_eq!(rt; signs.decider(), Some(case.rule), "{}", case.what);
     }
     Ok(())
 }

@@ -16,18 +16,18 @@ use Rattle.token_stack.specs.Standing.{TokensStandAt}
 use Rattle.token_stack.proofs.FeedLaws.{standing_rows}
 
 -- a number in the set of a test passes it
-member_passes : (p : ℕ → Bool) (row : List ℕ) (n : ℕ) → row ≡ row_of p → is_member row n ≡ true → p n ≡ true
+pub member_passes : (p : ℕ → Bool) (row : List ℕ) (n : ℕ) → row ≡ row_of p → is_member row n ≡ true → p n ≡ true
 member_passes p row n is member = elim (cases_lt n 256) [
   | inl small ↦ sym (is_member-row_of p n small) ∙ ap (λ xs. is_member xs n) (sym is) ∙ member
   | inr past ↦ absurd (true≢false (sym member ∙ ap (λ xs. is_member xs n) is ∙ is_member-row_of_past p n past))
 ]
 
 -- a number below 256 that passes is in the set
-passes_member : (p : ℕ → Bool) (row : List ℕ) (n : ℕ) → row ≡ row_of p → n < 256 → p n ≡ true → is_member row n ≡ true
+pub passes_member : (p : ℕ → Bool) (row : List ℕ) (n : ℕ) → row ≡ row_of p → n < 256 → p n ≡ true → is_member row n ≡ true
 passes_member p row n is small passed = ap (λ xs. is_member xs n) is ∙ is_member-row_of p n small ∙ passed
 
 -- a rule that selects is one of the rules
-selects_within : (rules : List Rule) (d : Doc) (n : ℕ) (place : List ℕ) → does_rule_select rules d n place ≡ true → n < length rules
+pub selects_within : (rules : List Rule) (d : Doc) (n : ℕ) (place : List ℕ) → does_rule_select rules d n place ≡ true → n < length rules
 selects_within [] d n place selects = absurd (true≢false (sym selects))
 selects_within (r ∷ rules) d zero place selects = omega arith
 selects_within (r ∷ rules) d (suc n) place selects = let inside : n < length rules = selects_within rules d n place selects in omega (arith, inside)

@@ -18,6 +18,7 @@ use Rattle.acl_model.specs.declared.rule.Rule.{Rule}
 use Rattle.rule_automata.specs.declared.state.State.{State}
 use Rattle.rule_automata.specs.Compile.{is_closed, states_from, have_no_predicates}
 use Rattle.rule_automata.specs.Meaning.{AreTagsOf, selecting_rules}
+use Rattle.acl_model.specs.Rules.{numbers_of}
 use Rattle.rule_automata.specs.Run.{Standing, waits_below, is_taken, selected_rule, goes_on, begun, moved, run, is_rule}
 use Rattle.rule_automata.proofs.RunLaws.{selected_is, selected_at}
 use Rattle.token_stack.specs.declared.entry.Entry.{Entry}
@@ -229,6 +230,7 @@ any_entry rule (m ∷ row) n = any_of rule n m.waits m.selects (entries_from (n 
 pub rules_are : (names : List (List ℕ)) (rules : List Rule) (inner : List ℕ) (tag : ℕ) (tags : List ℕ) (e : Element) (up : Chain)
     → are_distinct names ≡ true → length names ≤ 256 → have_no_predicates rules ≡ true → AreTagsOf names (tag ∷ tags) (e ∷ up)
     → rules_of (entries_at (levels_after (states_from names 0 rules) (inner ++ (tag ∷ tags))) (length (tag ∷ tags))) ≡ selecting_rules rules (e ∷ up)
+unfolding row_of numbers_of
 rules_are names rules inner tag tags e up distinct few plain tagged =
     ap rules_of (entries_at-after (states_from names 0 rules) inner tag tags)
     ∙ row_of-same (λ rule. list_any (λ x. is_rule rule x.selects) (entries_after (states_from names 0 rules) (tag ∷ tags))) (λ n. option_map_or (λ r. selects r.path (e ∷ up)) (slice_get rules n) false)

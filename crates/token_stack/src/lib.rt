@@ -14,7 +14,7 @@ pub use laws::{
     standing_tokens_are_sure_and_complete, standing_tokens_have_the_rules_that_select,
     tokens_follow_events,
 };
-pub use sign_laws::standing_tokens_give_signs;
+pub use sign_laws::{standing_rows_give_signs, standing_tokens_give_signs};
 pub use tokens::Tokens;
 
 #[cfg(test)]
