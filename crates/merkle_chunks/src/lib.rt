@@ -9,7 +9,7 @@ mod table;
 mod tree;
 
 pub use counts::{table_len, top_level};
-pub use digests::{key_check, leaf_digest, node_digest, root_of};
+pub use digests::{Digest, key_check, leaf_digest, node_digest, root_of};
 pub use header::{BadHeader, Header};
 pub use laws::{
     a_header_has_its_own_bytes, each_string_has_its_own_name, files_are_made_by_their_parts,

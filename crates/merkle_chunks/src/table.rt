@@ -7,14 +7,14 @@ ghost use Rattle.merkle_chunks.specs.Strings.{absent_child, node_string, leaf_st
 ghost use Rattle.merkle_chunks.specs.Table.{digest_count, fragments, table_bytes, table_levels, top_digest, top_level};
 ghost use Rattle.merkle_chunks.specs.Levels.{digests_in, level_above, levels_above, parents, width};
 
-use crate::digests::{DIGEST_LEN, FRAGMENT_LEN, leaf_digest, node_digest};
+use crate::digests::{DIGEST_LEN, Digest, FRAGMENT_LEN, leaf_digest, node_digest};
 
 /// Stands for a right child that isn't there.
-const ABSENT: [u8; 32] = [0; 32];
+const ABSENT: Digest = [0; 32];
 
 /// Hashes each fragment of a cipher once, writes the table over them, and gives its top digest. It takes no memory, so a
 /// file can be made in one piece.
-pub fn write_table(cipher: &[u8], table: &mut [u8]) -> [u8; 32]
+pub fn write_table(cipher: &[u8], table: &mut [u8]) -> Digest
     requires whole { length cipher.now % 256 ≡ 0 }
     requires some { 256 ≤ length cipher.now }
     requires room { length table.old ≡ 32 * digest_count (length cipher.now / 256) }
@@ -39,7 +39,7 @@ fn write_leaves(cipher: &[u8], level: &mut [u8])
 }
 
 /// Writes all levels above a level, and gives the top digest.
-fn write_levels(level: &[u8], above: &mut [u8]) -> [u8; 32]
+fn write_levels(level: &[u8], above: &mut [u8]) -> Digest
     requires whole { length level.now % 32 ≡ 0 }
     requires some { 32 ≤ length level.now }
     requires room { length above.old + length level.now ≡ 32 * digest_count (width level.now) }
@@ -71,7 +71,7 @@ fn write_nodes(below: &[u8], level: &mut [u8])
 }
 
 /// The digest of a node, by the level below it.
-fn node_over(digests: &[[u8; 32]], index: usize) -> [u8; 32]
+fn node_over(digests: &[Digest], index: usize) -> Digest
     requires { 2 * index < length digests.now }
     ensures { result ≡ sha256 (node_string (slice_index_or digests.now (2 * index) [])
         (slice_index_or digests.now (2 * index + 1) absent_child)) }

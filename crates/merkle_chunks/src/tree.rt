@@ -6,7 +6,7 @@ ghost use Rattle.merkle_chunks.specs.Table.{digest_count, fragments, node_of, ta
 ghost use Rattle.merkle_chunks.specs.Levels.{levels_in};
 
 use crate::counts::{counts_at, table_len, top_level};
-use crate::digests::{DIGEST_LEN, FRAGMENT_LEN};
+use crate::digests::{DIGEST_LEN, Digest, FRAGMENT_LEN};
 use crate::table::write_table;
 use acl_model::Bytes;
 use acl_outside::NoMemory;
@@ -46,7 +46,7 @@ impl Tree {
     }
 
     /// The digest at a level and an index, both from 0. None comes exactly off the table.
-    pub fn node(&self, level: u32, index: u32) -> Option<[u8; 32]>
+    pub fn node(&self, level: u32, index: u32) -> Option<Digest>
         ensures { result ≡ node_of self.now level index }
     {
         if level > self.top_level() {

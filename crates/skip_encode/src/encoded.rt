@@ -1,6 +1,7 @@
 //! A document's file.
 
 use acl_model::Bytes;
+use merkle_chunks::Digest;
 
 /// An encrypted file, and the root by which its readers check it.
 #[derive(Debug, Drop)]
@@ -8,5 +9,5 @@ pub struct Encoded {
     /// The header, the enciphered stream and the table of digests.
     pub bytes: Bytes,
     /// The digest of the header and the table's top digest. A licence names the file by it.
-    pub root: [u8; 32],
+    pub root: Digest,
 }
