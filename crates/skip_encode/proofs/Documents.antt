@@ -51,27 +51,30 @@ under-own d names is = ap (λ ns. size (tree_under ns d.root)) is ∙ sym (lengt
 
 -- a document that is measured, by what its parts are
 pub measured-of : (d : Doc) (m : Measured) → m.names ≡ dictionary d → length m.names ≤ 256 → m.section ≡ dictionary_section m.names
-    → m.numbers.tree ≡ size (tree_under m.names d.root) → length m.section + m.numbers.tree ≤ 33554432
-    → m.numbers.dictionary ≡ length m.section → m.numbers.tags ≡ length m.names → m.numbers.depth ≡ height d.root
+    → m.tree ≡ size (tree_under m.names d.root) → length m.section + m.tree ≤ 33554432
+    → m.dictionary ≡ length m.section → m.tags ≡ length m.names → m.depth ≡ height d.root
     → m.measures ≡ part_measures (element_part (branch_of m.names d.root)) ++ [] → IsMeasured d m
 measured-of d m is few spelled tree small long tags deep measures =
     let section_is : m.section ≡ dictionary_section (dictionary d) = spelled ∙ ap dictionary_section is in
-    let tree_is : m.numbers.tree ≡ length (tree_section d) = tree ∙ under-own d m.names is in
+    let tree_is : m.tree ≡ length (tree_section d) = tree ∙ under-own d m.names is in
     let few_test : nat_le (length (dictionary d)) 256 ≡ true = (let count = ap length is in grind (arith, nat_tests)) in
     let small_test : nat_le (length (dictionary_section (dictionary d)) + length (tree_section d)) 33554432 ≡ true = (let long_is = ap length section_is in grind (arith, nat_tests)) in
     record {
       defined = both-so (nat_le (length (dictionary d)) 256) (nat_le (length (dictionary_section (dictionary d)) + length (tree_section d)) 33554432) few_test small_test;
-      numbers = record { tree_length = tree_is; dictionary_length = long ∙ ap length section_is; names = tags ∙ ap length is; levels = deep };
+      tree_length = tree_is;
+      dictionary_length = long ∙ ap length section_is;
+      count = tags ∙ ap length is;
+      levels = deep;
       names = is;
       section = section_is;
       measures = measures ∙ append-nil (part_measures (element_part (branch_of m.names d.root))) ∙ ap (λ ns. part_measures (element_part (branch_of ns d.root))) is;
     }
 
 -- its two sections are within the limit
-pub sections-small : (d : Doc) (m : Measured) → IsMeasured d m → m.numbers.tree + m.numbers.dictionary ≤ 33554432
+pub sections-small : (d : Doc) (m : Measured) → IsMeasured d m → m.tree + m.dictionary ≤ 33554432
 sections-small d m is =
     let within = second_so (nat_le (length (dictionary d)) 256) (nat_le (length (dictionary_section (dictionary d)) + length (tree_section d)) 33554432) is.defined in
-    omega (arith, le_so (length (dictionary_section (dictionary d)) + length (tree_section d)) 33554432 within, is.numbers.tree_length, is.numbers.dictionary_length)
+    omega (arith, le_so (length (dictionary_section (dictionary d)) + length (tree_section d)) 33554432 within, is.tree_length, is.dictionary_length)
 
 -- ---- the second pass
 
@@ -81,25 +84,25 @@ measured-few d m is =
     let within = first_so (nat_le (length (dictionary d)) 256) (nat_le (length (dictionary_section (dictionary d)) + length (tree_section d)) 33554432) is.defined in
     omega (arith, ap length is.names, le_so (length (dictionary d)) 256 within)
 
-pub measured-tree : (d : Doc) (m : Measured) → IsMeasured d m → m.numbers.tree ≡ size (tree_under m.names d.root)
-measured-tree d m is = is.numbers.tree_length ∙ sym (under-own d m.names is.names)
+pub measured-tree : (d : Doc) (m : Measured) → IsMeasured d m → m.tree ≡ size (tree_under m.names d.root)
+measured-tree d m is = is.tree_length ∙ sym (under-own d m.names is.names)
 
-pub measured-members : (d : Doc) (m : Measured) (members : List ℕ) → IsMeasured d m → members ≡ range_with_len 0 m.numbers.tags
+pub measured-members : (d : Doc) (m : Measured) (members : List ℕ) → IsMeasured d m → members ≡ range_with_len 0 m.tags
     → members ≡ range_with_len 0 (length m.names)
-measured-members d m members is all = all ∙ ap (range_with_len 0) (is.numbers.names ∙ ap length (sym is.names))
+measured-members d m members is all = all ∙ ap (range_with_len 0) (is.count ∙ ap length (sym is.names))
 
 -- its root fits the virtual parent
-pub measured-fits : (d : Doc) (m : Measured) (members : List ℕ) (w : ℕ) → IsMeasured d m → members ≡ range_with_len 0 m.numbers.tags
-    → w ≡ binary_length m.numbers.tree → Fits members w (branch_of m.names d.root)
+pub measured-fits : (d : Doc) (m : Measured) (members : List ℕ) (w : ℕ) → IsMeasured d m → members ≡ range_with_len 0 m.tags
+    → w ≡ binary_length m.tree → Fits members w (branch_of m.names d.root)
 measured-fits d m members w is all digits =
     root-fits m.names d.root members w (omega (arith, ap length is.names, dictionary-some d)) (measured-few d m is)
     (omega (arith, measured-tree d m is, sections-small d m is)) (measured-members d m members is all) (digits ∙ ap binary_length (measured-tree d m is))
 
 -- its section, its tree and zeros are its stream
 pub stream-written : (d : Doc) (m : Measured) (members : List ℕ) (w end : ℕ) (old begun written new : List ℕ) → IsMeasured d m
-    → members ≡ range_with_len 0 m.numbers.tags → w ≡ binary_length m.numbers.tree → begun ≡ old ++ m.section
+    → members ≡ range_with_len 0 m.tags → w ≡ binary_length m.tree → begun ≡ old ++ m.section
     → written ≡ begun ++ bytes_of_segments (part_segments members w (element_part (branch_of m.names d.root)))
-    → end ≡ length old + 256 * ((m.numbers.tree + m.numbers.dictionary + 255) / 256)
+    → end ≡ length old + 256 * ((m.tree + m.dictionary + 255) / 256)
     → new ≡ take end written ++ replicate (end - length written) 0 → new ≡ old ++ plain d
 stream-written d m members w end old begun written new is all digits one two whole three =
     let small : size (tree_under m.names d.root) ≤ 33554432 = omega (arith, measured-tree d m is, sections-small d m is) in
@@ -111,8 +114,8 @@ stream-written d m members w end old begun written new is all digits one two who
     ∙ ap (λ l. begun ++ l) (tree-bytes m.names d.root members w (measured-few d m is) small (measured-members d m members is all) (digits ∙ ap binary_length (measured-tree d m is)))
     ∙ ap (λ l. l ++ tree) one
     ∙ append_assoc old m.section tree in
-    let long : length stream ≡ m.numbers.tree + m.numbers.dictionary =
-    omega (arith, length-append m.section tree, length-bytes (tree_under m.names d.root), measured-tree d m is, ap length is.section, is.numbers.dictionary_length) in
+    let long : length stream ≡ m.tree + m.dictionary =
+    omega (arith, length-append m.section tree, length-bytes (tree_under m.names d.root), measured-tree d m is, ap length is.section, is.dictionary_length) in
     three
     ∙ ap (λ l. take end l ++ replicate (end - length l) 0) all_is
     ∙ filled old stream end (omega (arith, whole, long))

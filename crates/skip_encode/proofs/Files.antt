@@ -3,7 +3,7 @@ use Rattle.std.proofs.Common.{◌≡◌, ℕ, suc, ◌+◌, ◌-◌, ◌*◌, �
 use Rattle.std.proofs.lemmas.List.{take_at, drop_at}
 use Rattle.sha2.specs.Sha256.{sha256}
 use Rattle.acl_model.specs.Document.{is_document}
-use Rattle.acl_model.specs.Stream.{has_stream, plain}
+use Rattle.acl_model.specs.Stream.{plain}
 use Rattle.acl_model.specs.declared.document.Doc.{Doc}
 use Rattle.aes_block.specs.Aes.{AreBytes}
 use Rattle.merkle_chunks.specs.HeaderBytes.{IsInRange, fragment_count, header_bytes}
@@ -16,21 +16,21 @@ use Rattle.merkle_chunks.proofs.FileLemmas.{file_is, length-header_bytes, length
 use Rattle.merkle_chunks.proofs.Places.{same_header}
 use Rattle.merkle_chunks.proofs.RangeLemmas.{document_header-in_range}
 use Rattle.skip_encode.specs.EncodedFile.{locked_stream}
-use Rattle.skip_encode.specs.Measured.{AreNumbersOf}
-use Rattle.skip_encode.specs.declared.numbers.Numbers.{Numbers}
+use Rattle.skip_encode.specs.Measured.{IsMeasured}
+use Rattle.skip_encode.specs.declared.measured.Measured.{Measured}
 
 -- ---- the header
 
 -- the numbers of a document and its key check are its header
-pub header-is : (d : Doc) (key check : List ℕ) (n : Numbers) → AreNumbersOf d n → check ≡ key_check key
-    → ◌≡◌ {A = Header} (record { tree = n.tree; dictionary = n.dictionary; tags = n.tags; depth = n.depth; check = check }) (document_header d key)
-header-is d key check n are is =
-    same_header (document_header d key) n.tree n.dictionary n.tags n.depth check are.tree_length are.dictionary_length are.names are.levels is
+pub header-is : (d : Doc) (key check : List ℕ) (m : Measured) → IsMeasured d m → check ≡ key_check key
+    → ◌≡◌ {A = Header} (record { tree = m.tree; dictionary = m.dictionary; tags = m.tags; depth = m.depth; check = check }) (document_header d key)
+header-is d key check m are is =
+    same_header (document_header d key) m.tree m.dictionary m.tags m.depth check are.tree_length are.dictionary_length are.count are.levels is
 
 -- they are in their ranges
-pub header-fits : (d : Doc) (key check : List ℕ) (n : Numbers) → is_document d ≡ true → has_stream d ≡ true → AreNumbersOf d n → check ≡ key_check key
-    → IsInRange (record { tree = n.tree; dictionary = n.dictionary; tags = n.tags; depth = n.depth; check = check })
-header-fits d key check n good within are is = subst IsInRange (sym (header-is d key check n are is)) (document_header-in_range d good within key)
+pub header-fits : (d : Doc) (key check : List ℕ) (m : Measured) → is_document d ≡ true → IsMeasured d m → check ≡ key_check key
+    → IsInRange (record { tree = m.tree; dictionary = m.dictionary; tags = m.tags; depth = m.depth; check = check })
+header-fits d key check m good are is = subst IsInRange (sym (header-is d key check m are is)) (document_header-in_range d good are.defined key)
 
 -- ---- lengths
 
@@ -39,10 +39,10 @@ pub table-short : (n : ℕ) → n ≤ 131072 → 32 * digest_count n ≤ 8390000
 table-short n few = omega (arith, counts-le n (suc (top_level n)), top_level-low n few)
 
 -- the stream of a document has the bytes that its numbers tell, and the header 64
-pub length-stream : (d : Doc) (key : List ℕ) (n : Numbers) (stream : ℕ) → AreNumbersOf d n → stream ≡ 256 * ((n.tree + n.dictionary + 255) / 256)
+pub length-stream : (d : Doc) (key : List ℕ) (m : Measured) (stream : ℕ) → IsMeasured d m → stream ≡ 256 * ((m.tree + m.dictionary + 255) / 256)
     → length (plain d) ≡ stream
-length-stream d key n stream are is =
-    length-plain d key ∙ ap (λ (h : Header). 256 * fragment_count h) (sym (header-is d key (key_check key) n are refl)) ∙ sym is
+length-stream d key m stream are is =
+    length-plain d key ∙ ap (λ (h : Header). 256 * fragment_count h) (sym (header-is d key (key_check key) m are refl)) ∙ sym is
 
 pub length-front : (d : Doc) (key front : List ℕ) → front ≡ header_bytes (document_header d key) → length front ≡ 64
 length-front d key front is = ap length is ∙ length-header_bytes (document_header d key) (length-key_check key)

@@ -5,20 +5,15 @@ use Rattle.acl_model.specs.Stream.{element_part, branch_of, tree_section, has_st
 use Rattle.acl_model.specs.declared.document.Doc.{Doc}
 use Rattle.skip_encode.specs.Measures.{part_measures}
 use Rattle.skip_encode.specs.declared.measured.Measured.{Measured}
-use Rattle.skip_encode.specs.declared.numbers.Numbers.{Numbers}
 
--- These are the numbers of a document's stream: the lengths of its tree section and of its dictionary section, the number
--- of its names, and its depth.
-pub record AreNumbersOf (d : Doc) (n : Numbers) : Type 0 where
-  pub tree_length : n.tree ≡ length (tree_section d)
-  pub dictionary_length : n.dictionary ≡ length (dictionary_section (dictionary d))
-  pub names : n.tags ≡ length (dictionary d)
-  pub levels : n.depth ≡ depth d
-
--- The document has a stream, and these are its numbers, its names, its dictionary section and the measures of its elements.
+-- The document has a stream, and these are the lengths of its tree section and of its dictionary section, the number of its
+-- names, its depth, its names, its dictionary section and the measures of its elements.
 pub record IsMeasured (d : Doc) (m : Measured) : Type 0 where
   pub defined : has_stream d ≡ true
-  pub numbers : AreNumbersOf d m.numbers
+  pub tree_length : m.tree ≡ length (tree_section d)
+  pub dictionary_length : m.dictionary ≡ length (dictionary_section (dictionary d))
+  pub count : m.tags ≡ length (dictionary d)
+  pub levels : m.depth ≡ depth d
   pub names : m.names ≡ dictionary d
   pub section : m.section ≡ dictionary_section (dictionary d)
   pub measures : m.measures ≡ part_measures (element_part (branch_of (dictionary d) d.root))

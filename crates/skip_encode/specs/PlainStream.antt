@@ -9,7 +9,7 @@ use Rattle.skip_encode.specs.declared.plain.Plain.{Plain}
 
 -- The document has a stream, and these are its bytes, the lengths of its tree section and of its dictionary section, the
 -- number of its names, and its depth.
-pub record IsStreamOf (d : Doc) (p : Plain) : Type 0 where
+pub record IsPlainOf (d : Doc) (p : Plain) : Type 0 where
   pub defined : has_stream d ≡ true
   pub bytes : p.bytes ≡ plain d
   pub tree_length : p.tree ≡ length (tree_section d)

@@ -9,9 +9,8 @@ ghost use Rattle.skip_encode.specs.declared.fault.EncodeFault.TheVariants as fau
 
 use crate::encoded::Encoded;
 use crate::fault::EncodeFault;
-use crate::locking::{HEADER, lock_file};
+use crate::locking::{FRAGMENT, HEADER, lock_file};
 use crate::measured::Measured;
-use crate::numbers::FRAGMENT;
 use acl_model::{Bytes, Doc};
 use aes_block::Key128;
 use merkle_chunks::{Header, key_check, root_of, table_len};
@@ -31,16 +30,15 @@ pub fn encode_file(alloc: Global, doc: &Doc, key: [u8; 16]) -> Result<Encoded, E
     ensures too_large { result ≡ Err fault.TooLarge → 33554432 < sections_size doc.now }
 {
     let measured = Measured::of(alloc, doc)?;
-    let numbers = measured.numbers;
     let header = Header {
-        tree: numbers.tree,
-        dictionary: numbers.dictionary,
-        tags: numbers.tags,
-        depth: numbers.depth,
+        tree: measured.tree,
+        dictionary: measured.dictionary,
+        tags: measured.tags,
+        depth: measured.depth,
         check: key_check(&key),
     };
     let front = header.write();
-    let stream = numbers.stream_len();
+    let stream = measured.stream_len();
     let end = HEADER + stream + table_len((stream / FRAGMENT) as u32);
     let mut bytes = Vec::with_capacity(alloc, end)?;
     bytes.extend_from_slice(&front)?;

@@ -13,7 +13,6 @@ mod measure_fault;
 mod measured;
 mod measures;
 mod measuring;
-mod numbers;
 mod plain;
 mod stream;
 mod tally;

@@ -7,17 +7,19 @@ ghost use Rattle.position_cipher.specs.Fragments.{locked_fragment};
 ghost use Rattle.merkle_chunks.specs.Table.{digest_count, fragments, table_bytes, table_levels, top_digest};
 ghost use Rattle.skip_encode.specs.EncodedFile.{locked_stream};
 
-use crate::numbers::FRAGMENT;
 use aes_block::Key128;
-use merkle_chunks::write_table;
+use merkle_chunks::{Digest, write_table};
 use position_cipher::lock_fragment;
 
 /// The bytes of a header.
 pub(crate) const HEADER: usize = 64;
 
+/// The bytes of a fragment.
+pub(crate) const FRAGMENT: usize = 256;
+
 /// Enciphers the stream that stands behind a file's header, and writes the table over it into the room behind it. The top
 /// digest is answered.
-pub(crate) fn lock_file(key: &Key128, file: &mut [u8], stream_len: usize) -> [u8; 32]
+pub(crate) fn lock_file(key: &Key128, file: &mut [u8], stream_len: usize) -> Digest
     requires key { AreBytes 16 key.now }
     requires whole { stream_len % 256 ≡ 0 }
     requires some { 256 ≤ stream_len }

@@ -1,6 +1,6 @@
 //! The two passes over a document: the second writes its stream by what the first has found.
 
-ghost use Rattle.std.specs.Prelude.{◌≡◌, ◌<◌, ◌≤◌, ◌++◌, true, Err, IfOk, OnOk, length, vec_len};
+ghost use Rattle.std.specs.Prelude.{◌≡◌, ◌+◌, ◌*◌, ◌/◌, ◌<◌, ◌≤◌, ◌++◌, true, Err, IfOk, OnOk, length, vec_len};
 ghost use Rattle.acl_model.specs.Document.{is_document};
 ghost use Rattle.acl_model.specs.Dictionary.{dictionary};
 ghost use Rattle.acl_model.specs.Stream.{plain};
@@ -11,9 +11,9 @@ ghost use Rattle.skip_encode.specs.declared.fault.EncodeFault.TheVariants as fau
 use crate::fault::EncodeFault;
 use crate::heads::{Parent, binary_length};
 use crate::height::height;
+use crate::locking::FRAGMENT;
 use crate::measures::Measures;
 use crate::measuring::measure_tree;
-use crate::numbers::Numbers;
 use crate::writing::write_element;
 use acl_bits::Row;
 use acl_model::{Bytes, Doc};
@@ -23,8 +23,14 @@ use tag_dictionary::Dictionary;
 /// What the first pass has found of a document whose stream is not written yet.
 #[derive(Debug, Drop)]
 pub(crate) struct Measured {
-    /// Its numbers.
-    pub(crate) numbers: Numbers,
+    /// How many bytes its tree section has.
+    pub(crate) tree: u64,
+    /// How many bytes its dictionary section has.
+    pub(crate) dictionary: u32,
+    /// The number of its names.
+    pub(crate) tags: u16,
+    /// The greatest number of elements that are open at once.
+    pub(crate) depth: u16,
     /// Its names.
     names: Dictionary,
     /// Its dictionary section.
@@ -47,40 +53,39 @@ impl Measured {
         let section = names.bytes(alloc)?;
         let mut measures = Measures::new(alloc);
         let tree = measure_tree(&mut measures, &names, section.as_slice(), &doc.root)?;
-        let numbers = Numbers {
+        Ok(Measured {
             tree: u64::from(tree),
             dictionary: section.len() as u32,
             tags: names.names().len() as u16,
             depth: height(&doc.root),
-        };
-        Ok(Measured {
-            numbers,
             names,
             section,
             measures,
         })
     }
 
+    /// How many bytes the stream has, the zeros at its end counted.
+    pub(crate) fn stream_len(&self) -> usize
+        requires { self.now.tree + self.now.dictionary ≤ 33554432 }
+        ensures { result ≡ 256 * ((self.now.tree + self.now.dictionary + 255) / 256) }
+    {
+        (self.tree as usize + self.dictionary as usize).next_multiple_of(FRAGMENT)
+    }
+
     /// The second pass: writes the stream behind what stands in the buffer, at most a header.
-    pub(crate) fn write(self, doc: &Doc, bytes: &mut Vec<u8>) -> Result<(), AllocError>
+    pub(crate) fn write(mut self, doc: &Doc, bytes: &mut Vec<u8>) -> Result<(), AllocError>
         requires document { is_document doc.now ≡ true }
         requires measured { IsMeasured doc.now self }
         requires front { vec_len bytes.old ≤ 64 }
         ensures { OnOk result (bytes.new.items ≡ bytes.old.items ++ plain doc.now) }
     {
-        let Measured {
-            numbers,
-            names,
-            section,
-            mut measures,
-        } = self;
         let parent = Parent {
-            members: Row::full(numbers.tags),
-            width: binary_length(numbers.tree as u32),
+            members: Row::full(self.tags),
+            width: binary_length(self.tree as u32),
         };
-        let end = bytes.len() + numbers.stream_len();
-        bytes.extend_from_slice(section.as_slice())?;
-        write_element(bytes, &mut measures, &names, &parent, &doc.root)?;
+        let end = bytes.len() + self.stream_len();
+        bytes.extend_from_slice(self.section.as_slice())?;
+        write_element(bytes, &mut self.measures, &self.names, &parent, &doc.root)?;
         bytes.resize(end, 0)?;
         Ok(())
     }

@@ -3,7 +3,7 @@
 ghost use Rattle.std.specs.Prelude.{◌≡◌, ◌<◌, ◌≤◌, true, Err, IfOk, length};
 ghost use Rattle.acl_model.specs.Document.{is_document};
 ghost use Rattle.acl_model.specs.Dictionary.{dictionary};
-ghost use Rattle.skip_encode.specs.PlainStream.{IsStreamOf, sections_size};
+ghost use Rattle.skip_encode.specs.PlainStream.{IsPlainOf, sections_size};
 ghost use Rattle.skip_encode.specs.declared.fault.EncodeFault.TheVariants as fault;
 
 use crate::fault::EncodeFault;
@@ -16,20 +16,26 @@ use std::alloc::Global;
 /// than 256 names, and `TooLarge` where it hasn't and its two sections have together more than 33,554,432 bytes.
 pub fn plain_stream(alloc: Global, doc: &Doc) -> Result<Plain, EncodeFault>
     requires { is_document doc.now ≡ true }
-    ensures stream { IfOk result (λ p. IsStreamOf doc.now p) }
+    ensures stream { IfOk result (λ p. IsPlainOf doc.now p) }
     ensures too_many { result ≡ Err fault.TooManyTags → 256 < length (dictionary doc.now) }
     ensures few { result ≡ Err fault.TooLarge → length (dictionary doc.now) ≤ 256 }
     ensures too_large { result ≡ Err fault.TooLarge → 33554432 < sections_size doc.now }
 {
     let measured = Measured::of(alloc, doc)?;
-    let numbers = measured.numbers;
-    let mut bytes = Vec::with_capacity(alloc, numbers.stream_len())?;
+    let mut bytes = Vec::with_capacity(alloc, measured.stream_len())?;
+    let Measured {
+        tree,
+        dictionary,
+        tags,
+        depth,
+        ..
+    } = measured;
     measured.write(doc, &mut bytes)?;
     Ok(Plain {
         bytes: Bytes::from_vec(bytes),
-        tree: numbers.tree,
-        dictionary: numbers.dictionary,
-        tags: numbers.tags,
-        depth: numbers.depth,
+        tree,
+        dictionary,
+        tags,
+        depth,
     })
 }

@@ -12,8 +12,7 @@ use Rattle.skip_encode.proofs.file.encode_file.Goals as goal
 -- the numbers of the document are in their ranges
 pub write-front-requires : goal.write-front-requires
 write-front-requires c =
-    let is = c.in_ok-measured.ensures.measured in
-    header-fits c.args.doc.now c.args.key c.key_check.result c.in_ok-measured.measured.numbers c.requires is.defined is.numbers c.key_check.ensures
+    header-fits c.args.doc.now c.args.key c.key_check.result c.in_ok-measured.measured c.requires c.in_ok-measured.ensures.measured c.key_check.ensures
 
 -- the file is short
 pub overflow_add-end-2 : goal.overflow_add-end-2
@@ -42,18 +41,18 @@ returns-clause-file c =
     let d = c.args.doc.now in
     let key = c.args.key in
     let is = c.in_ok-measured.ensures.measured in
-    let numbers = c.in_ok-measured.measured.numbers in
+    let measured = c.in_ok-measured.measured in
     let stream = c.stream_len-stream.result in
     let end = 64 + stream + c.table_len.result in
     let is_key : AreBytes 16 key = search rules in
     let front : c.write-front.result ≡ header_bytes (document_header d key) =
-    c.write-front.ensures ∙ ap header_bytes (header-is d key c.key_check.result numbers is.numbers c.key_check.ensures) in
+    c.write-front.ensures ∙ ap header_bytes (header-is d key c.key_check.result measured is c.key_check.ensures) in
     let written : c.write.new.bytes.items ≡ c.write-front.result ++ plain d =
     c.in_ok-write.ensures ∙ ap (λ l. l ++ plain d) (c.in_ok-extend_from_slice.ensures.items ∙ ap (λ l. l ++ c.write-front.result) c.in_ok-bytes.ensures.items) in
     let file : c.deref_mut.result.now ≡ take end (c.write-front.result ++ plain d) ++ replicate (end - vec_len c.write.new.bytes) 0 =
     c.deref_mut.ensures.value ∙ c.in_ok-resize.ensures.items ∙ ap (λ l. take end l ++ replicate (end - vec_len c.write.new.bytes) 0) written in
     let size = length-front d key c.write-front.result front in
-    let wide = length-stream d key numbers stream is.numbers c.stream_len-stream.ensures in
+    let wide = length-stream d key measured stream is c.stream_len-stream.ensures in
     let header_is : take 64 c.deref_mut.result.now ≡ header_bytes (document_header d key) =
     front-in c.write-front.result (plain d) c.deref_mut.result.now stream end (vec_len c.write.new.bytes) file size wide (omega arith) ∙ front in
     let cipher : List ℕ = locked_stream c.new.result (take stream (drop 64 c.deref_mut.result.now)) in
