@@ -9,5 +9,4 @@ pub mod Documents
 pub mod Searches
 pub mod Loops
 pub mod Chains
-pub mod Forms
 pub mod Roots

@@ -5,10 +5,9 @@ ghost use Rattle.std.specs.Prelude.{◌≡◌, ◌↔◌, Err, IfOk, IsTrue};
 ghost use Rattle.acl_model.specs.declared.document.Doc.{Doc};
 ghost use Rattle.skip_decode.specs.StreamOf.{IsStreamOf, HasNumbers};
 
-use crate::form::is_document;
 use crate::take::take_bytes;
 use crate::tree::read_tree;
-use acl_model::Doc;
+use acl_model::{Doc, is_document};
 use merkle_chunks::Header;
 use skip_encode::{EncodeFault, Plain, plain_stream};
 use std::alloc::Global;

@@ -4,7 +4,6 @@
 mod attributes;
 mod decode;
 mod element;
-mod form;
 mod head;
 mod laws;
 mod take;

@@ -11,4 +11,3 @@ pub mod Trees
 pub mod Documents
 pub mod LockedStreams
 pub mod Files
-pub mod Forms

@@ -1,15 +1,13 @@
 //! Documents whose streams are worked out by hand, and where a document has none. Memory is ample.
 
 use super::*;
-use acl_model::{Bytes, Doc, Element, Item, Name, Sequence};
-use forms::is_document;
+use acl_model::{Bytes, Doc, Element, Item, Name, Sequence, is_document};
 use sqlite_items::{Boxed, Items};
 use std::alloc::{AllocError, Global};
 use std::process::Abort;
 use std::test::Fail;
 
 mod files;
-mod forms;
 
 /// A document whose root has this name, these attributes and these items.
 fn document(
