@@ -2,6 +2,7 @@ pub mod Limits
 pub mod Ascii
 pub mod Names
 pub mod Lines
+pub mod Lists
 pub mod Document
 pub mod Form
 pub mod Text

@@ -1,18 +1,14 @@
--- What the options keep to the end of the words, and the words that no options begin with.
-use Rattle.std.proofs.Common.{◌≡◌, ℕ, Bool, true, false, ◌&&◌, codes, Option, Some, None, is_some, is_none, List, [], ◌∷◌, ◌++◌, refl, ◌∙◌, if◌then◌else◌}
-use Rattle.std.specs.Option.{option_and_then}
-use Rattle.licence.specs.Forms.{text_behind}
-use Rattle.acl_words.specs.Options.{Options, Reading, Awaited, an_option, a_query, no_options, is_word, is_value, with_query, with_explain, with_option, with_word, options_at_end, options_from, options_of}
-use Rattle.acl_words.specs.Begins.{has_value, begins_query, begins_query_or_explain}
+-- Words that begin options of a command go on to some, and others go on to none.
+use Rattle.std.proofs.Common.{◌≡◌, ℕ, Bool, true, false, ◌&&◌, codes, Option, Some, None, is_some, is_none, List, [], ◌∷◌, ◌++◌, refl, ap, ◌∙◌, if◌then◌else◌}
+use Rattle.std.specs.Option.{option_map, option_and_then}
+use Rattle.acl_model.specs.Lists.{text_behind}
+use Rattle.acl_words.specs.Command.{Command}
+use Rattle.acl_words.specs.Options.{Options, Reading, Awaited, an_option, a_query, no_options, is_word, is_value, with_query, with_explain, with_option, with_word, options_at_end, options_begun, reading_from, reading_of, options_of, begun_options_of}
+use Rattle.acl_words.specs.Begins.{begins_options}
 
 -- ---- what is kept
 
--- Options that are given have this property.
-abbrev pub Given : (Options → Type 0) → Option Options → Type 0
-Given P None = Unit {0}
-Given P (Some options) = P options
-
--- So have those of a reading.
+-- Options that are read have this property.
 abbrev pub Reads : (Options → Type 0) → Option Reading → Type 0
 Reads P None = Unit {0}
 Reads P (Some reading) = P reading.options
@@ -21,20 +17,6 @@ Reads P (Some reading) = P reading.options
 pub record IsKept (P : Options → Type 0) : Type 0 where
   pub query : (options : Options) (value : List ℕ) → P options → P (record options { query = Some value })
   pub explain : (options : Options) → P options → P (record options { explain = true })
-
--- `--explain` is given.
-abbrev pub HasExplain : Options → Type 0
-HasExplain options = options.explain ≡ true
-
--- `--explain` and `--query` are given.
-abbrev pub HasBoth : Options → Type 0
-HasBoth options = (options.explain ≡ true) × (is_some options.query ≡ true)
-
-explain_kept : IsKept HasExplain
-explain_kept = record { query = λ options value has. has; explain = λ options has. refl }
-
-both_kept : IsKept HasBoth
-both_kept = record { query = λ options value has. (has.0, refl); explain = λ options has. (refl, has.1) }
 
 -- The options after a word, by the tests of its rows.
 abbrev pub by_rows : Bool → Bool → Option (List ℕ) → Options → Option Reading
@@ -70,128 +52,116 @@ word_keeps P kept an_option options word has =
     rows_keep P kept options has (is_word word (codes "--explain")) (is_word word (codes "--query")) (text_behind (codes "--query=") word)
 word_keeps P kept a_query options word has = query_keeps P kept options word has
 
-end_keeps : (P : Options → Type 0) (awaited : Awaited) (options : Options) → P options → Given P (options_at_end awaited options)
-end_keeps P an_option options has = has
-end_keeps P a_query options has = tt
+-- So do all words.
+reading_from-keeps : (P : Options → Type 0) → IsKept P → (words : List (List ℕ)) (reading : Option Reading) → Reads P reading → Reads P (reading_from reading words)
+reading_from-keeps P kept words None has = tt
+reading_from-keeps P kept [] (Some reading) has = has
+reading_from-keeps P kept (word ∷ words) (Some reading) has =
+    reading_from-keeps P kept words (with_word reading.awaited reading.options word) (word_keeps P kept reading.awaited reading.options word has)
 
--- The options at the end keep it.
-pub options_from-keeps : (P : Options → Type 0) → IsKept P → (words : List (List ℕ)) (reading : Option Reading) → Reads P reading → Given P (options_from reading words)
-options_from-keeps P kept words None has = tt
-options_from-keeps P kept [] (Some reading) has = end_keeps P reading.awaited reading.options has
-options_from-keeps P kept (word ∷ words) (Some reading) has =
-    options_from-keeps P kept words (with_word reading.awaited reading.options word) (word_keeps P kept reading.awaited reading.options word has)
+reading_from-append : (reading : Option Reading) (words more : List (List ℕ)) → reading_from reading (words ++ more) ≡ reading_from (reading_from reading words) more
+reading_from-append None words more = refl
+reading_from-append (Some reading) [] more = refl
+reading_from-append (Some reading) (word ∷ words) more = reading_from-append (with_word reading.awaited reading.options word) words more
 
--- ---- a second option
+-- ---- a command that is made of options
 
--- Behind `--query` and its value stands `--explain` or nothing.
-behind_query : (value word : List ℕ) (words : List (List ℕ)) → Given HasBoth (options_from (with_option (record { query = Some value; explain = false }) word) words)
-unfolding with_option
-behind_query value word words = by_test (is_word word (codes "--explain")) (is_word word (codes "--query")) (text_behind (codes "--query=") word) words
+-- what is read at the end of the words, and what is begun
+abbrev ended : Option Reading → Option Options
+ended reading = option_and_then (λ r. options_at_end r.awaited r.options) reading
+
+abbrev begun : Option Reading → Option Options
+begun reading = option_and_then (λ r. options_begun r.awaited r.options) reading
+
+-- No command is made of these options.
+abbrev pub Refuses : (Options → Option Command) → Options → Type 0
+Refuses make options = make options ≡ None
+
+none_made : {A : Type 0} (made : Option A) → is_some made ≡ false → made ≡ None
+none_made None h = refl
+none_made (Some a) h = absurd (cc)
+
+-- Options of which no command is made end in none.
+refused_end : (make : Options → Option Command) (reading : Option Reading) → Reads (Refuses make) reading → option_and_then make (ended reading) ≡ None
+refused_end make None refuses = refl
+refused_end make (Some reading) refuses = by_awaited reading.awaited
   where
-    by_test : (explain query : Bool) (behind : Option (List ℕ)) (words : List (List ℕ))
-        → Given HasBoth (options_from (by_rows explain query behind (record { query = Some value; explain = false })) words)
-    by_test true query behind words = options_from-keeps HasBoth both_kept words (Some (record { options = record { query = Some value; explain = true }; awaited = an_option })) (refl, refl)
-    by_test false true behind [] = tt
-    by_test false true behind (word ∷ words) = tt
-    by_test false false None words = tt
-    by_test false false (Some other) words = tt
+    by_awaited : (awaited : Awaited) → option_and_then make (options_at_end awaited reading.options) ≡ None
+    by_awaited an_option = refuses
+    by_awaited a_query = refl
 
--- A value of `--query` behind `--explain`.
-explain_and_value : (value : List ℕ) (words : List (List ℕ)) → Given HasBoth (options_from (with_query (record { query = None; explain = true }) value) words)
-explain_and_value value words = by_test (is_value value)
+-- Whether a command is made does not depend on which value `--query` has.
+other_value : (make : Options → Option Command) → IsKept (Refuses make) → (options : Options) (value : List ℕ)
+    → is_some (option_and_then make (option_map (λ (r : Reading). r.options) (with_query options (codes "/")))) ≡ false → Reads (Refuses make) (with_query options value)
+other_value make kept options value h = by_test (is_none options.query) (is_value value) h
   where
-    by_test : (taken : Bool) → Given HasBoth (options_from (if taken then Some (record { options = record { query = Some value; explain = true }; awaited = an_option }) else None) words)
-    by_test true = options_from-keeps HasBoth both_kept words (Some (record { options = record { query = Some value; explain = true }; awaited = an_option })) (refl, refl)
-    by_test false = tt
+    by_test : (first is : Bool)
+        → is_some (option_and_then make (option_map (λ (r : Reading). r.options)
+        (if first && is_value (codes "/") then Some (record { options = record options { query = Some (codes "/") }; awaited = an_option }) else None))) ≡ false
+        → Reads (Refuses make) (if first && is then Some (record { options = record options { query = Some value }; awaited = an_option }) else None)
+    by_test true true h = kept.query (record options { query = Some (codes "/") }) value (none_made (make (record options { query = Some (codes "/") })) h)
+    by_test true false h = tt
+    by_test false is h = tt
 
--- Behind `--explain` stands `--query` or nothing.
-behind_explain : (word : List ℕ) (words : List (List ℕ)) → Given HasBoth (options_from (with_option (record { query = None; explain = true }) word) words)
-unfolding with_option
-behind_explain word words = by_test (is_word word (codes "--explain")) (is_word word (codes "--query")) (text_behind (codes "--query=") word) words
+refused_from : (make : Options → Option Command) → IsKept (Refuses make) → (reading : Option Reading) (rest : List (List ℕ))
+    → is_some (option_and_then make (begun reading)) ≡ false → option_and_then make (ended (reading_from reading rest)) ≡ None
+refused_from make kept None rest h = refl
+refused_from make kept (Some reading) rest h = by_awaited reading.awaited rest h
   where
-    by_test : (explain query : Bool) (behind : Option (List ℕ)) (words : List (List ℕ))
-        → Given HasBoth (options_from (by_rows explain query behind (record { query = None; explain = true })) words)
-    by_test true query behind words = tt
-    by_test false true behind [] = tt
-    by_test false true behind (value ∷ words) = explain_and_value value words
-    by_test false false None words = tt
-    by_test false false (Some value) words = explain_and_value value words
+    by_awaited : (awaited : Awaited) (rest : List (List ℕ)) → is_some (option_and_then make (options_begun awaited reading.options)) ≡ false
+        → option_and_then make (ended (reading_from (Some (record { options = reading.options; awaited = awaited })) rest)) ≡ None
+    by_awaited an_option rest h =
+        let read : Option Reading = Some (record { options = reading.options; awaited = an_option }) in
+        refused_end make (reading_from read rest) (reading_from-keeps (Refuses make) kept rest read (none_made (make reading.options) h))
+    by_awaited a_query [] h = refl
+    by_awaited a_query (value ∷ rest) h =
+        refused_end make (reading_from (with_query reading.options value) rest)
+        (reading_from-keeps (Refuses make) kept rest (with_query reading.options value) (other_value make kept reading.options value h))
 
--- ---- words that no options begin with
+-- Words that no options of a command begin with go on to none.
+pub begins_options-refuses : (make : Options → Option Command) → IsKept (Refuses make) → (words rest : List (List ℕ)) → begins_options make words ≡ false
+    → option_and_then make (options_of (words ++ rest)) ≡ None
+unfolding options_of begun_options_of reading_of
+begins_options-refuses make kept words rest h =
+    ap (λ reading. option_and_then make (ended reading)) (reading_from-append (Some (record { options = no_options; awaited = an_option })) words rest)
+    ∙ refused_from make kept (reading_of words) rest h
 
--- no word behind `--query` and its value but `--explain`
-behind_value : (value word : List ℕ) (words : List (List ℕ)) → Given HasBoth (options_from (with_query no_options value) (word ∷ words))
-behind_value value word words = by_test (is_value value)
+-- The words go on to some that give a command.
+pub record GoesOn (command_of : List (List ℕ) → Option Command) (words : List (List ℕ)) : Type 0 where
+  pub rest : List (List ℕ)
+  pub command : Command
+  pub line : command_of (words ++ rest) ≡ Some command
+
+-- The words with which a reading goes on to what it begins.
+record Completes (reading : Option Reading) : Type 0 where
+  rest : List (List ℕ)
+  same : ended (reading_from reading rest) ≡ begun reading
+
+completed : (reading : Option Reading) → Completes reading
+completed None = record { rest = []; same = refl }
+completed (Some reading) = by_awaited reading.awaited
   where
-    by_test : (taken : Bool) → Given HasBoth (options_from (if taken then Some (record { options = record { query = Some value; explain = false }; awaited = an_option }) else None) (word ∷ words))
-    by_test true = behind_query value word words
-    by_test false = tt
+    by_test : (options : Options) (taken : Bool)
+        → ended (reading_from (if taken then Some (record { options = record options { query = Some (codes "/") }; awaited = an_option }) else None) [])
+        ≡ option_map (λ (r : Reading). r.options) (if taken then Some (record { options = record options { query = Some (codes "/") }; awaited = an_option }) else None)
+    by_test options true = refl
+    by_test options false = refl
 
-no_value : (value : List ℕ) (words : List (List ℕ)) → is_value value ≡ false → Given HasBoth (options_from (with_query no_options value) words)
-no_value value words h = by_test (is_value value) h
+    by_awaited : (awaited : Awaited) → Completes (Some (record { options = reading.options; awaited = awaited }))
+    by_awaited an_option = record { rest = []; same = refl }
+    by_awaited a_query = record { rest = codes "/" ∷ []; same = by_test reading.options (is_none reading.options.query && is_value (codes "/")) }
+
+-- Words that options of a command begin with go on to some.
+pub begins_options-goes_on : (make : Options → Option Command) (words : List (List ℕ)) → begins_options make words ≡ true
+    → GoesOn (λ words. option_and_then make (options_of words)) words
+unfolding options_of begun_options_of reading_of
+begins_options-goes_on make words h =
+    let on = completed (reading_of words) in
+    by_made (option_and_then make (begun (reading_of words))) on.rest
+    (ap (λ reading. option_and_then make (ended reading)) (reading_from-append (Some (record { options = no_options; awaited = an_option })) words on.rest)
+    ∙ ap (option_and_then make) on.same) h
   where
-    by_test : (taken : Bool) → taken ≡ false → Given HasBoth (options_from (if taken then Some (record { options = record { query = Some value; explain = false }; awaited = an_option }) else None) words)
-    by_test true h = absurd (cc)
-    by_test false h = tt
-
--- the test of `begins_query` behind the tests of the first word
-abbrev begins_by : Bool → Option (List ℕ) → List (List ℕ) → Bool
-begins_by query behind [] = if query then true else has_value behind
-begins_by query behind (value ∷ []) = query && is_value value
-begins_by query behind (value ∷ word ∷ words) = false
-
-no_query_by : (query : Bool) (behind : Option (List ℕ)) (words rest : List (List ℕ)) → begins_by query behind words ≡ false
-    → Given HasBoth (options_from (by_rows false query behind no_options) (words ++ rest))
-no_query_by true behind [] rest h = absurd (cc)
-no_query_by true behind (value ∷ []) rest h = no_value value rest h
-no_query_by true behind (value ∷ word ∷ words) rest h = behind_value value word (words ++ rest)
-no_query_by false None words rest h = tt
-no_query_by false (Some value) [] rest h = no_value value rest h
-no_query_by false (Some value) (word ∷ words) rest h = behind_value value word (words ++ rest)
-
-begins_query_by : (option : List ℕ) (words : List (List ℕ)) → begins_by (is_word option (codes "--query")) (text_behind (codes "--query=") option) words ≡ begins_query (option ∷ words)
-begins_query_by option [] = refl
-begins_query_by option (value ∷ []) = refl
-begins_query_by option (value ∷ word ∷ words) = refl
-
-both_has_explain : (options : Option Options) → Given HasBoth options → Given HasExplain options
-both_has_explain None has = tt
-both_has_explain (Some options) has = has.0
-
--- Words that `[--query P]` does not begin with give no options, or `--explain` among them.
-pub options_of-no_query : (words rest : List (List ℕ)) → begins_query words ≡ false → Given HasExplain (options_of (words ++ rest))
-unfolding options_of with_option
-options_of-no_query [] rest h = absurd (cc)
-options_of-no_query (option ∷ words) rest h =
-    by_test (is_word option (codes "--explain")) (is_word option (codes "--query")) (text_behind (codes "--query=") option) words (begins_query_by option words ∙ h)
-  where
-    by_test : (explain query : Bool) (behind : Option (List ℕ)) (words : List (List ℕ)) → begins_by query behind words ≡ false
-        → Given HasExplain (options_from (by_rows explain query behind no_options) (words ++ rest))
-    by_test true query behind words h =
-        options_from-keeps HasExplain explain_kept (words ++ rest) (Some (record { options = record { query = None; explain = true }; awaited = an_option })) refl
-    by_test false query behind words h =
-        both_has_explain (options_from (by_rows false query behind no_options) (words ++ rest)) (no_query_by query behind words rest h)
-
--- the test of `begins_query_or_explain` behind the tests of the first word
-abbrev begins_or_explain_by : Bool → Bool → Option (List ℕ) → List (List ℕ) → Bool
-begins_or_explain_by explain query behind [] = if explain then true else begins_by query behind []
-begins_or_explain_by explain query behind (value ∷ words) = begins_by query behind (value ∷ words)
-
-begins_query_or_explain_by : (option : List ℕ) (words : List (List ℕ))
-    → begins_or_explain_by (is_word option (codes "--explain")) (is_word option (codes "--query")) (text_behind (codes "--query=") option) words ≡ begins_query_or_explain (option ∷ words)
-begins_query_or_explain_by option [] = refl
-begins_query_or_explain_by option (value ∷ words) = begins_query_by option (value ∷ words)
-
--- Words that neither `[--query P]` nor `[--explain]` begins with give no options, or both.
-pub options_of-no_query_or_explain : (words rest : List (List ℕ)) → begins_query_or_explain words ≡ false → Given HasBoth (options_of (words ++ rest))
-unfolding options_of with_option
-options_of-no_query_or_explain [] rest h = absurd (cc)
-options_of-no_query_or_explain (option ∷ words) rest h =
-    by_test (is_word option (codes "--explain")) (is_word option (codes "--query")) (text_behind (codes "--query=") option) words (begins_query_or_explain_by option words ∙ h)
-  where
-    by_test : (explain query : Bool) (behind : Option (List ℕ)) (words : List (List ℕ)) → begins_or_explain_by explain query behind words ≡ false
-        → Given HasBoth (options_from (by_rows explain query behind no_options) (words ++ rest))
-    by_test true query behind [] h = absurd (cc)
-    by_test true query behind (word ∷ words) h = behind_explain word (words ++ rest)
-    by_test false query behind [] h = no_query_by query behind [] rest h
-    by_test false query behind (word ∷ words) h = no_query_by query behind (word ∷ words) rest h
+    by_made : (made : Option Command) (rest : List (List ℕ)) → option_and_then make (options_of (words ++ rest)) ≡ made → is_some made ≡ true
+        → GoesOn (λ words. option_and_then make (options_of words)) words
+    by_made None rest is some = absurd (cc)
+    by_made (Some command) rest is some = record { rest = rest; command = command; line = is }

@@ -4,3 +4,4 @@ pub mod Request
 pub mod Words
 pub mod Fronts
 pub mod Begins
+pub mod Files

@@ -1,10 +1,10 @@
 -- The options of a command line, which stand in any order, each at most once. A machine reads them, the same for all
 -- commands; a later option is a row. This project's own.
 use Rattle.std.specs.Prelude.{ℕ, nat_eq, Bool, true, false, not, ◌&&◌, codes, is_none, Option, Some, None, List, [], ◌∷◌, if◌then◌else◌}
-use Rattle.std.specs.Option.{option_and_then}
+use Rattle.std.specs.Option.{option_map, option_and_then}
 use Rattle.std.specs.Cmp.Lexicographic.{pointwise}
 use Rattle.acl_model.specs.Ascii.{hyphen}
-use Rattle.licence.specs.Forms.{text_behind}
+use Rattle.acl_model.specs.Lists.{text_behind}
 
 -- the options that are given
 pub record Options : Type 0 where
@@ -63,12 +63,25 @@ abbrev pub options_at_end : Awaited → Options → Option Options
 options_at_end an_option options = Some options
 options_at_end a_query options = None
 
--- the options after all of these words
-abbrev pub options_from : Option Reading → List (List ℕ) → Option Options
-options_from None words = None
-options_from (Some reading) [] = options_at_end reading.awaited reading.options
-options_from (Some reading) (word ∷ words) = options_from (with_word reading.awaited reading.options word) words
+-- The options that are begun, where any value will do for one that is still awaited.
+abbrev pub options_begun : Awaited → Options → Option Options
+options_begun an_option options = Some options
+options_begun a_query options = option_map (λ reading. reading.options) (with_query options (codes "/"))
+
+-- what is read after all of these words
+abbrev pub reading_from : Option Reading → List (List ℕ) → Option Reading
+reading_from None words = None
+reading_from (Some reading) [] = Some reading
+reading_from (Some reading) (word ∷ words) = reading_from (with_word reading.awaited reading.options word) words
+
+-- what is read of these words from the first on
+unfoldable pub reading_of : List (List ℕ) → Option Reading
+reading_of words = reading_from (Some (record { options = no_options; awaited = an_option })) words
 
 -- The options that these words give, each at most once, in any order.
 unfoldable pub options_of : List (List ℕ) → Option Options
-options_of words = options_from (Some (record { options = no_options; awaited = an_option })) words
+options_of words = option_and_then (λ reading. options_at_end reading.awaited reading.options) (reading_of words)
+
+-- The options that these words give or begin.
+unfoldable pub begun_options_of : List (List ℕ) → Option Options
+begun_options_of words = option_and_then (λ reading. options_begun reading.awaited reading.options) (reading_of words)

@@ -2,7 +2,11 @@
 use Rattle.std.specs.Prelude.{◌≤◌}
 use Rattle.std.specs.Option.{option_copied}
 use Rattle.acl_words.specs.Command as word
+use Rattle.acl_words.specs.Files as file
 use Rattle.acl_words.specs.Options as option
+use Rattle.acl_words.specs.declared.files.Files.{Files}
+use Rattle.acl_words.specs.declared.files.Input.{Input}
+use Rattle.acl_words.specs.declared.files.Input.TheVariants.{Document, Body, Licence, Nothing}
 use Rattle.acl_words.specs.declared.options.Awaited.{Awaited}
 use Rattle.acl_words.specs.declared.options.Awaited.TheVariants.{AnOption, Query}
 use Rattle.acl_words.specs.declared.options.Options.{Options}
@@ -46,3 +50,19 @@ meant_awaited Query = option.Awaited.a_query
 -- what was read so far
 abbrev pub meant_reading : Reading → option.Reading
 meant_reading reading = record { options = meant_options reading.options; awaited = meant_awaited reading.awaited }
+
+-- what is taken from standard input
+abbrev pub meant_input : Input → file.Input
+meant_input Document = file.Input.a_document
+meant_input Body = file.Input.a_body
+meant_input Licence = file.Input.a_licence
+meant_input Nothing = file.Input.nothing
+
+-- the files that are named
+abbrev pub meant_files : Files → file.Files
+meant_files files = record {
+  rules = option_copied files.rules;
+  keys = option_copied files.keys;
+  store = option_copied files.store;
+  input = meant_input files.input;
+}

@@ -1,56 +1,23 @@
 //! Where words go wrong that are no command line: behind the longest front that some command line begins with.
 
 ghost use Rattle.std.specs.Prelude.{◌≡◌, ◌↔◌, ◌∷◌, None, true, is_some, IfSome, IfNone, map, string_bytes};
-ghost use Rattle.acl_words.specs.Begins.{begins_with_query, begins_query, begins_query_or_explain};
 ghost use Rattle.acl_words.specs.Begins.{begins_preview, begins_view, begins_sample, begins_line};
 ghost use Rattle.acl_words.specs.Fronts.{IsBegun, IsLongestFront};
 ghost use Rattle.acl_words.specs.Words.{words_of};
 
-use crate::options::is_a_value;
-use crate::words::{read_size, read_words};
-
-/// Whether `[--query P]` begins with this word.
-fn begins_with_query(word: &str) -> bool
-    ensures { result ≡ begins_with_query word.now }
-{
-    match word {
-        "--query" => true,
-        _ => match word.as_bytes().strip_prefix(b"--query=") {
-            Some(value) => is_a_value(value),
-            None => false,
-        },
-    }
-}
-
-/// Whether `[--query P]` begins with these words.
-fn begins_query(options: &[String]) -> bool
-    ensures { result ≡ begins_query (map string_bytes options.now) }
-{
-    match options {
-        [] => true,
-        [option] => begins_with_query(option.as_str()),
-        [option, value] => option.as_str() == "--query" && is_a_value(value.as_bytes()),
-        _ => false,
-    }
-}
-
-/// Whether `[--query P]` or `[--explain]` begins with these words.
-fn begins_query_or_explain(options: &[String]) -> bool
-    ensures { result ≡ begins_query_or_explain (map string_bytes options.now) }
-{
-    match options {
-        [option] => option.as_str() == "--explain" || begins_with_query(option.as_str()),
-        _ => begins_query(options),
-    }
-}
+use crate::options::read_begun_options;
+use crate::words::{preview_request, read_size, read_words, view_request};
 
 /// Whether what stands behind `preview` begins with these words.
 fn begins_preview(words: &[String]) -> bool
     ensures { result ≡ begins_preview (map string_bytes words.now) }
 {
-    match words {
-        [] => true,
-        [_rules, options @ ..] => begins_query_or_explain(options),
+    let [_rules, options @ ..] = words else {
+        return true;
+    };
+    match read_begun_options(options) {
+        Some(options) => preview_request(options).is_some(),
+        None => false,
     }
 }
 
@@ -58,9 +25,12 @@ fn begins_preview(words: &[String]) -> bool
 fn begins_view(words: &[String]) -> bool
     ensures { result ≡ begins_view (map string_bytes words.now) }
 {
-    match words {
-        [] | [_] => true,
-        [_keys, _store, options @ ..] => begins_query(options),
+    let [_keys, _store, options @ ..] = words else {
+        return true;
+    };
+    match read_begun_options(options) {
+        Some(options) => view_request(options).is_some(),
+        None => false,
     }
 }
 

@@ -3,7 +3,7 @@
 ghost use Rattle.std.specs.Prelude.{◌≡◌, map, string_bytes};
 ghost use Rattle.std.specs.Option.{option_map};
 ghost use Rattle.acl_words.specs.Options.{is_value, with_query, with_explain, with_option, with_word};
-ghost use Rattle.acl_words.specs.Options.{options_at_end, options_of};
+ghost use Rattle.acl_words.specs.Options.{options_at_end, options_begun, reading_of, options_of, begun_options_of};
 ghost use Rattle.acl_words.specs.Request.{meant_options, meant_reading};
 
 /// The options that are given.
@@ -27,7 +27,7 @@ struct Reading<'a> {
     awaited: Awaited,
 }
 
-pub fn is_a_value(word: &[u8]) -> bool
+fn is_a_value(word: &[u8]) -> bool
     ensures { result ≡ is_value word.now }
 {
     match word {
@@ -105,10 +105,24 @@ fn end_of_options(reading: Reading<'_>) -> Option<Options<'_>>
     }
 }
 
-/// The options that these words give. No other words are options.
-#[tactic(auto, unfolding(crate::specs::Options::options_of))]
-pub fn read_options(words: &[String]) -> Option<Options<'_>>
-    ensures { option_map meant_options result ≡ options_of (map string_bytes words.now) }
+/// The options that are begun, where any value will do for one that is still awaited.
+fn begun_by(reading: Reading<'_>) -> Option<Options<'_>>
+    ensures { option_map meant_options result
+        ≡ options_begun (meant_reading reading.entry).awaited (meant_reading reading.entry).options }
+{
+    match reading.awaited {
+        Awaited::AnOption => Some(reading.options),
+        Awaited::Query => match take_query(reading.options, b"/") {
+            Some(reading) => Some(reading.options),
+            None => None,
+        },
+    }
+}
+
+/// What is read after these words, unless they are no options.
+#[tactic(auto, unfolding(crate::specs::Options::reading_of))]
+fn read_each(words: &[String]) -> Option<Reading<'_>>
+    ensures { option_map meant_reading result ≡ reading_of (map string_bytes words.now) }
 {
     let mut reading = Reading {
         options: Options {
@@ -120,7 +134,23 @@ pub fn read_options(words: &[String]) -> Option<Options<'_>>
     for word in words {
         reading = take_word(reading, word.as_str())?;
     }
-    end_of_options(reading)
+    Some(reading)
+}
+
+/// The options that these words give. No other words are options.
+#[tactic(auto, unfolding(crate::specs::Options::options_of))]
+pub fn read_options(words: &[String]) -> Option<Options<'_>>
+    ensures { option_map meant_options result ≡ options_of (map string_bytes words.now) }
+{
+    end_of_options(read_each(words)?)
+}
+
+/// The options that these words give or begin, unless no options begin so.
+#[tactic(auto, unfolding(crate::specs::Options::begun_options_of))]
+pub fn read_begun_options(words: &[String]) -> Option<Options<'_>>
+    ensures { option_map meant_options result ≡ begun_options_of (map string_bytes words.now) }
+{
+    begun_by(read_each(words)?)
 }
 
 #[cfg(test)]

@@ -68,3 +68,33 @@ fn the_first_word_that_cannot_stand_there_is_refused(rt: HostRuntime) {
     }
     assert_eq!(rt; refused_word(&[]), Some(0));
 }
+
+/// The files of rules, of keys and of a store, where an empty word stands for none.
+#[test]
+fn a_command_line_names_its_files_and_other_words_name_none(rt: HostRuntime) {
+    for (text, rules, keys, store) in [
+        ("preview;r;--explain", "r", "", ""),
+        ("encode;k", "", "k", ""),
+        ("seal;k", "", "k", ""),
+        ("view;k;s;--query;/a", "", "k", "s"),
+        ("explain;k;s", "", "k", "s"),
+        ("sample;1", "", "", ""),
+    ] {
+        let words = words(&rt, text);
+        let files = named_files(words.as_slice()).expect(&rt, "files");
+        assert_eq!(rt; files.rules.unwrap_or(""), rules, "{text}");
+        assert_eq!(rt; files.keys.unwrap_or(""), keys, "{text}");
+        assert_eq!(rt; files.store.unwrap_or(""), store, "{text}");
+    }
+    for text in [
+        "",
+        "fly;x",
+        "encode;k;x",
+        "view;k",
+        "preview;r;x",
+        "sample;0",
+    ] {
+        let words = words(&rt, text);
+        assert!(rt; named_files(words.as_slice()).is_none(), "{text}");
+    }
+}

@@ -25,7 +25,7 @@ fn shown_under<'a>(query: Option<&'a [u8]>, explain: bool) -> Option<Shown<'a>>
     }
 }
 
-fn preview_request(options: Options<'_>) -> Option<Request<'_>>
+pub fn preview_request(options: Options<'_>) -> Option<Request<'_>>
     ensures { option_map command_of result ≡ preview_with (meant_options options.entry) }
 {
     match shown_under(options.query, options.explain) {
@@ -70,7 +70,7 @@ fn read_seal(words: &[String]) -> Option<Request<'_>>
 
 // ---- view
 
-fn view_request(options: Options<'_>) -> Option<Request<'_>>
+pub fn view_request(options: Options<'_>) -> Option<Request<'_>>
     ensures { option_map command_of result ≡ view_with (meant_options options.entry) }
 {
     match (options.query, options.explain) {
