@@ -1,56 +1,40 @@
 //! What was wrong, in words, behind the line of an outcome: the file or stream in which it was, and what is the matter.
 
 use acl_outcome::Outcome;
+use acl_words::{Files, Input, named_files};
 use std::alloc::{AllocError, Global};
 
 /// What a run is given.
 #[derive(Clone, Copy)]
 enum Given {
-    /// The file that the second word names: keys, or for `preview` the rules.
+    /// The file that is read first: the keys, or else the rules.
     Keys,
-    /// What has the rules: for `preview` that file, else standard input.
+    /// What has the rules: the file that is named for them, else standard input.
     Rules,
     Input,
     Query,
-    /// The file that the third word names.
     Store,
     Output,
 }
 
-/// What is the matter with documents, and with reading them.
-fn in_document(outcome: Outcome) -> Option<&'static str> {
-    Some(match outcome {
-        Outcome::BadLine { .. } =>
-            "the line is none of a document; examples/xml.sh makes lines of an XML file",
-        Outcome::Unsupported { .. } => "lines that begin so are not read",
-        Outcome::Unbalanced { .. } =>
-            "something can't stand there, or the end of an element is missing",
-        Outcome::NoRoot => "there is no element",
-        Outcome::SecondRoot { .. } => "something stands behind the end of the root",
-        Outcome::TooDeep { .. } => "more than 255 elements are open",
-        Outcome::NameTooLong { .. } => "a name has more than 255 bytes",
-        Outcome::TooManyAttributes { .. } => "an element has more than 65,535 attributes",
-        Outcome::TooManyTags => "the document has more than 256 different names",
-        Outcome::TooLarge => "the document's names and tree take more than 33,554,432 bytes",
-        Outcome::SourceFault => "it can't be read",
-        _ => return None,
-    })
-}
+const NO_LINE: &str = "the line is none of a document; examples/xml.sh makes lines of an XML file";
 
-/// What is the matter with a store.
-fn in_store(outcome: Outcome) -> Option<&'static str> {
-    Some(match outcome {
-        Outcome::BadHeader => "it is no file that acl encode makes",
-        Outcome::WrongRoot { .. } =>
-            "it is another file than the licence is for, or was changed; a body names its file by the root of encode",
-        Outcome::WrongKey { .. } => "it was encoded with another document key",
-        Outcome::StoreShort { .. } => "it ends too early",
-        Outcome::StoreFault => "it is missing, is a folder, or can't be read",
-        Outcome::BadFragment { .. } => "it was changed",
-        Outcome::BadIndex => "it was made of something else than a document",
-        _ => return None,
-    })
-}
+const UNBALANCED: &str = "something can't stand there, or the end of an element is missing";
+
+const SECOND_ROOT: &str = "something stands behind the end of the root";
+
+const TOO_MANY_ATTRIBUTES: &str = "an element has more than 65,535 attributes";
+
+const TOO_MANY_NAMES: &str = "the document has more than 256 different names";
+
+const TOO_LARGE: &str = "the document's names and tree take more than 33,554,432 bytes";
+
+const WRONG_ROOT: &str = "it is another file than the licence is for, or was changed; \
+    a body names its file by the root of encode";
+
+const NOT_THERE: &str = "it is missing, is a folder, or can't be read";
+
+const BAD_SEAL: &str = "the licence was changed since it was sealed, or sealed with other keys";
 
 /// What should stand in this line of a licence body, counted from 1.
 fn body_line(line: u32) -> &'static str {
@@ -71,56 +55,70 @@ fn licence_line(line: u32) -> &'static str {
     }
 }
 
-/// What is the matter with keys and rules, and with the output.
-fn in_others(outcome: Outcome, is_sealed: bool) -> Option<(Given, &'static str)> {
+/// What should stand in this line of the keys, counted from 1.
+fn keys_line(line: u32) -> &'static str {
+    match line {
+        1 => "document and 32 digits belong here",
+        2 => "seal and 64 digits belong here",
+        _ => "nothing may stand behind the two lines of the keys",
+    }
+}
+
+/// Where this line of a licence is, and what should stand there.
+fn in_licence(line: u32, input: Input) -> (Given, &'static str) {
+    match input {
+        Input::Licence => (Given::Input, licence_line(line)),
+        Input::Document | Input::Body | Input::Nothing => (Given::Rules, body_line(line)),
+    }
+}
+
+/// Where something is the matter, and what. `None` where the outcome's name says it all, or the cause is a path.
+fn cause(outcome: Outcome, input: Input) -> Option<(Given, &'static str)> {
     Some(match outcome {
-        Outcome::KeysFault => (Given::Keys, "it is missing, is a folder, or can't be read"),
-        Outcome::BadKeys { line: 1 } => (Given::Keys, "document and 32 digits belong here"),
-        Outcome::BadKeys { line: 2 } => (Given::Keys, "seal and 64 digits belong here"),
-        Outcome::BadKeys { .. } => (
-            Given::Keys,
-            "nothing may stand behind the two lines of the keys",
+        Outcome::Done | Outcome::NoMemory | Outcome::Usage | Outcome::NoteFault => return None,
+        Outcome::InputTooLong { .. } | Outcome::TooManyStates => return None,
+        Outcome::BadRule { .. } | Outcome::BadQuery { .. } | Outcome::Stopped { .. } => return None,
+        Outcome::BadLine { .. } => (Given::Input, NO_LINE),
+        Outcome::Unsupported { .. } => (Given::Input, "lines that begin so are not read"),
+        Outcome::Unbalanced { .. } => (Given::Input, UNBALANCED),
+        Outcome::NoRoot => (Given::Input, "there is no element"),
+        Outcome::SecondRoot { .. } => (Given::Input, SECOND_ROOT),
+        Outcome::TooDeep { .. } => (Given::Input, "more than 255 elements are open"),
+        Outcome::NameTooLong { .. } => (Given::Input, "a name has more than 255 bytes"),
+        Outcome::TooManyAttributes { .. } => (Given::Input, TOO_MANY_ATTRIBUTES),
+        Outcome::TooManyTags => (Given::Input, TOO_MANY_NAMES),
+        Outcome::TooLarge => (Given::Input, TOO_LARGE),
+        Outcome::SourceFault => (Given::Input, "it can't be read"),
+        Outcome::BadHeader => (Given::Store, "it is no file that acl encode makes"),
+        Outcome::WrongRoot { .. } => (Given::Store, WRONG_ROOT),
+        Outcome::WrongKey { .. } => (Given::Store, "it was encoded with another document key"),
+        Outcome::StoreShort { .. } => (Given::Store, "it ends too early"),
+        Outcome::StoreFault => (Given::Store, NOT_THERE),
+        Outcome::BadFragment { .. } => (Given::Store, "it was changed"),
+        Outcome::BadIndex => (
+            Given::Store,
+            "it was made of something else than a document",
         ),
-        Outcome::BadSeal { .. } => {
-            (
-                Given::Input,
-                "the licence was changed since it was sealed, or sealed with other keys",
-            )
-        }
-        Outcome::BadLicence { line } if is_sealed => (Given::Input, licence_line(line)),
-        Outcome::BadLicence { line } => (Given::Rules, body_line(line)),
+        Outcome::KeysFault => (Given::Keys, NOT_THERE),
+        Outcome::BadKeys { line } => (Given::Keys, keys_line(line)),
+        Outcome::BadSeal { .. } => (Given::Input, BAD_SEAL),
+        Outcome::BadLicence { line } => in_licence(line, input),
         Outcome::TooManyRules => (Given::Rules, "there are more than 64 rules"),
         Outcome::SinkFault => (Given::Output, "it can't be written"),
-        _ => return None,
     })
 }
 
-fn cause(outcome: Outcome, is_sealed: bool) -> Option<(Given, &'static str)> {
-    if let Some(cause) = in_document(outcome) {
-        return Some((Given::Input, cause));
-    }
-    match in_store(outcome) {
-        Some(cause) => Some((Given::Store, cause)),
-        None => in_others(outcome, is_sealed),
-    }
-}
-
 /// How the user knows what a run was given.
-fn name_of<'a>(given: Given, words: &'a [String]) -> &'a str {
-    let named = match (given, words) {
-        (Given::Keys, [_command, name, ..]) => Some(name),
-        (Given::Rules, [command, name, ..]) if command.as_str() == "preview" => Some(name),
-        (Given::Store, [_command, _keys, name, ..]) => Some(name),
-        _ => None,
+fn name_of(given: Given, files: Files<'_>) -> &str {
+    let (named, unnamed) = match given {
+        Given::Keys => (files.keys.or(files.rules), "the keys"),
+        Given::Rules => (files.rules, "standard input"),
+        Given::Input => (None, "standard input"),
+        Given::Query => (None, "the query"),
+        Given::Store => (files.store, "the store"),
+        Given::Output => (None, "standard output"),
     };
-    match (given, named) {
-        (_, Some(name)) => name.as_str(),
-        (Given::Keys, None) => "the keys",
-        (Given::Query, None) => "the query",
-        (Given::Store, None) => "the store",
-        (Given::Output, None) => "standard output",
-        (Given::Rules | Given::Input, None) => "standard input",
-    }
+    named.unwrap_or(unnamed)
 }
 
 /// The line of a path that goes wrong behind so many bytes.
@@ -135,21 +133,25 @@ fn path_line(alloc: Global, name: &str, at: u32) -> Result<String, AllocError> {
 }
 
 /// The line that says an outcome in words, or nothing where its name says it all.
+fn in_files(alloc: Global, files: Files<'_>, outcome: Outcome) -> Result<String, AllocError> {
+    match (outcome, cause(outcome, files.input)) {
+        (Outcome::BadRule { at, .. }, _) => path_line(alloc, name_of(Given::Rules, files), at),
+        (Outcome::BadQuery { at }, _) => path_line(alloc, name_of(Given::Query, files), at),
+        (_, Some((given, cause))) => {
+            format!(in alloc; "acl: {}: {cause}\n", name_of(given, files))
+        }
+        (_, None) => Ok(String::new(alloc)),
+    }
+}
+
+/// The line that says this outcome of a command line in words. Of words that are none, nothing is said.
 pub fn cause_in_words(
     alloc: Global,
     words: &[String],
     outcome: Outcome,
 ) -> Result<String, AllocError> {
-    match outcome {
-        Outcome::BadRule { at, .. } => return path_line(alloc, name_of(Given::Rules, words), at),
-        Outcome::BadQuery { at } => return path_line(alloc, name_of(Given::Query, words), at),
-        _ => (),
-    }
-    let is_sealed = words
-        .first()
-        .is_some_and(|command| matches!(command.as_str(), "view" | "explain"));
-    match cause(outcome, is_sealed) {
-        Some((given, cause)) => format!(in alloc; "acl: {}: {cause}\n", name_of(given, words)),
+    match named_files(words) {
+        Some(files) => in_files(alloc, files, outcome),
         None => Ok(String::new(alloc)),
     }
 }

@@ -35,15 +35,25 @@ fn word(alloc: Global, name: &'static str, help: &'static str) -> Arg<'static> {
     Arg::new(alloc, name).required(true).help(help)
 }
 
-fn preview(alloc: Global) -> Result<Command<'static>, AllocError> {
-    let query = Arg::new(alloc, "P")
+// ---- the options: one function for each, whichever commands take it
+
+fn query(alloc: Global) -> Arg<'static> {
+    Arg::new(alloc, "P")
         .long("query")
         .action(ArgAction::Set)
-        .help("Writes of the view only what this path selects");
-    let explain = Arg::new(alloc, "explain")
+        .help("Writes of the view only what this path selects")
+}
+
+fn explanation(alloc: Global) -> Arg<'static> {
+    Arg::new(alloc, "explain")
         .long("explain")
         .action(ArgAction::SetTrue)
-        .help("Writes in its place which rule decides at each element that a rule selects");
+        .help("Writes in its place which rule decides at each element that a rule selects")
+}
+
+// ---- the commands
+
+fn preview(alloc: Global) -> Result<Command<'static>, AllocError> {
     command(
         alloc,
         "preview",
@@ -54,8 +64,8 @@ fn preview(alloc: Global) -> Result<Command<'static>, AllocError> {
         Example: acl preview examples/doctor.rules <examples/hospital.esis",
     )?
     .arg(word(alloc, "RULES", "File of the licence body"))?
-    .arg(query)?
-    .arg(explain)
+    .arg(query(alloc))?
+    .arg(explanation(alloc))
 }
 
 fn encode(alloc: Global) -> Result<Command<'static>, AllocError> {
@@ -84,10 +94,6 @@ fn seal(alloc: Global) -> Result<Command<'static>, AllocError> {
 }
 
 fn view(alloc: Global) -> Result<Command<'static>, AllocError> {
-    let query = Arg::new(alloc, "P")
-        .long("query")
-        .action(ArgAction::Set)
-        .help("Writes of the view only what this path selects");
     command(
         alloc,
         "view",
@@ -99,7 +105,7 @@ fn view(alloc: Global) -> Result<Command<'static>, AllocError> {
     )?
     .arg(word(alloc, "KEYS", "File of the keys"))?
     .arg(word(alloc, "STORE", "The encrypted file"))?
-    .arg(query)
+    .arg(query(alloc))
 }
 
 fn explain(alloc: Global) -> Result<Command<'static>, AllocError> {
