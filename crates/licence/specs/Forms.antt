@@ -1,10 +1,10 @@
 -- The forms that the lines of a licence, a body and keys share: a word with hexadecimal digits behind it, and how a line
 -- of a form is taken from the front of others. This project's own.
-use Rattle.std.specs.Prelude.{◌≡◌, ℕ, nat_eq, List, [], ◌∷◌, ◌++◌, length, take, drop, Option, Some, None, ok_or, Result, Ok, Err, if◌then◌else◌}
+use Rattle.std.specs.Prelude.{◌≡◌, ℕ, List, [], ◌∷◌, ◌++◌, Option, ok_or, Result, Ok, Err}
 use Rattle.std.specs.Option.{option_map, option_and_then}
 use Rattle.std.specs.Result.{result_ok}
-use Rattle.std.specs.Cmp.Lexicographic.{pointwise}
 use Rattle.hex.specs.Hex.{decode_sized}
+pub use Rattle.acl_model.specs.Lists.{text_behind}
 
 -- ---- whole lines
 
@@ -27,10 +27,6 @@ infixl 10 ◌>>=◌
 abbrev pub ◌>>=◌ : {A B E : Type 0} → Result A E → (A → Result B E) → Result B E
 Ok a >>= more = more a
 Err fault >>= more = Err fault
-
--- what follows a word with which a text begins
-abbrev pub text_behind : List ℕ → List ℕ → Option (List ℕ)
-text_behind word bytes = if pointwise nat_eq (take (length word) bytes) word then Some (drop (length word) bytes) else None
 
 -- so many bytes, from the digits behind a word
 abbrev pub bytes_behind : List ℕ → ℕ → List ℕ → Option (List ℕ)
