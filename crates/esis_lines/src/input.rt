@@ -1,6 +1,7 @@
 //! Reads a source to its end into memory, up to a limit. The bytes taken and the bytes to come are
 //! always the bytes that were to come at the start.
 ghost use Rattle.std.specs.Prelude.{◌≡◌, ◌≤◌, ◌+◌, true, is_some, length, IfOk, OnOk, IfErr};
+ghost use Rattle.std.specs.Bool.{OnTrue};
 ghost use Rattle.std.specs.Io.KnownBytes.{Consumes, IsAtEnd};
 ghost use Rattle.acl_model.specs.Ascii.{are_bytes};
 ghost use Rattle.acl_outside.specs.Outside.{CountsWhere, NotFallen, TakesAtMost};
@@ -46,7 +47,8 @@ impl From<acl_outside::Failed> for ReadAllFault {
 const CHUNK: usize = 8192;
 
 /// All bytes of a source, which are at most `limit`. Where there are more, one more than the limit is
-/// taken from the source, and no further read is made. No fault is tried again.
+/// taken from the source, and no further read is made, so a source that fails has given no more than `limit`. No
+/// fault is tried again.
 pub fn read_all<Q: Source>(alloc: Global, source: &mut Q, limit: u32) -> Result<Bytes, ReadAllFault>
     ensures whole { IfOk result (λ bytes. Consumes (Q.left source.old) (Q.left source.new) bytes) }
     ensures end { OnOk result (IsAtEnd (Q.left source.new)) }
@@ -57,6 +59,8 @@ pub fn read_all<Q: Source>(alloc: Global, source: &mut Q, limit: u32) -> Result<
 
     // On every answer, want of memory and a fault among them.
     ensures taken { TakesAtMost (limit + 1) (Q.left source.old) (Q.left source.new) }
+    ensures failed_within { OnTrue (is_failure result)
+        (TakesAtMost limit (Q.left source.old) (Q.left source.new)) }
     ensures count { CountsWhere (is_failure result) (Q.faults source.old) (Q.faults source.new) }
     ensures never_falls { NotFallen (Q.faults source.old) (Q.faults source.new) }
     ensures telling { is_some (Q.left source.new) ≡ is_some (Q.left source.old) }
