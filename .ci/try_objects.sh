@@ -25,6 +25,11 @@ try "a word behind the last" "2 Usage" "acl preview doctor.rules more <hospital.
 try "a word behind an option" "2 Usage" "acl view keys hospital.file --query /a more <doctor.licence"
 try "a word that is no text" "2 Usage" "acl preview $'doctor\\xff.rules' <hospital.esis"
 try "a command that is no text" "2 Usage" "acl $'\\xff' <hospital.esis"
+mkfifo "$made/pipe" || exit 2
+# Who opens a pipe that nobody writes to waits for ever.
+for words in "fly PIPE" "view PIPE" "encode PIPE more" "view keys PIPE more" "sample PIPE"; do
+    try "$words" "2 Usage" "timeout 10 \"$program\" ${words/PIPE/\"$made/pipe\"} <nothing.out"
+done
 try "no rules" "3 KeysFault" "acl preview nowhere.rules <hospital.esis"
 try "a folder as rules" "3 KeysFault" "acl preview . <hospital.esis"
 try "no keys" "3 KeysFault" "acl view nowhere hospital.file <doctor.licence"

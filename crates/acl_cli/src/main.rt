@@ -5,6 +5,7 @@
 use acl_outside::{FileStore, ReaderSource, WriterSink};
 use acl_run::{Outcome, outcome_text, run, status};
 use acl_usage::in_words;
+use acl_words::named_files;
 use std::alloc::Global;
 use std::env;
 use std::env::Env;
@@ -38,29 +39,25 @@ fn input_given(rt: &HostRuntime) -> Option<Stdin> {
     }
 }
 
-/// The file of the keys or of the rules: the one that the second word names, for every command but `sample`.
-fn named_file(rt: &HostRuntime, words: &[String]) -> Option<File> {
-    match words {
-        [command, name, ..] if command.as_str() != "sample" => File::open(rt, name.as_str()).ok(),
-        _ => None,
-    }
+/// The file of this name, if one is named and can be opened.
+fn opened(rt: &HostRuntime, name: Option<&str>) -> Option<File> {
+    File::open(rt, name?).ok()
 }
 
-/// The file of the store: the one that the third word names, for the commands that open one.
-fn named_store(rt: &HostRuntime, words: &[String]) -> Option<File> {
-    match words {
-        [command, _keys, name, ..] if matches!(command.as_str(), "view" | "explain") => {
-            File::open(rt, name.as_str()).ok()
-        }
-        _ => None,
+/// The files that the words name: of the keys or the rules, and of the store. Words that are no command line name none.
+fn open_files(rt: &HostRuntime, words: &[String]) -> (Option<File>, Option<File>) {
+    match named_files(words) {
+        Some(files) => (opened(rt, files.keys.or(files.rules)), opened(rt, files.store)),
+        None => (None, None),
     }
 }
 
 /// The run over the real objects. A file that no word names, or that can't be opened, is handed in as one that isn't there.
 fn run_over_streams(rt: &HostRuntime, words: &[String]) -> Outcome {
     let mut input = ReaderSource::new(input_given(rt));
-    let mut keys = ReaderSource::new(named_file(rt, words));
-    let mut store = FileStore::new(named_store(rt, words));
+    let (keys, store) = open_files(rt, words);
+    let mut keys = ReaderSource::new(keys);
+    let mut store = FileStore::new(store);
     let Ok(output) = BufWriter::new(rt.alloc(), rt.stdout()) else {
         return Outcome::NoMemory;
     };
