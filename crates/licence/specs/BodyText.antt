@@ -66,7 +66,8 @@ is_user_byte b = nat_le space b && not (nat_eq b delete) && is_byte b
 
 -- A user is 1 to 255 such bytes.
 abbrev pub is_user : List ℕ → Bool
-is_user user = nat_lt 0 (length user) && nat_le (length user) most_user_bytes && list_all is_user_byte user
+is_user user =
+    nat_lt 0 (length user) && nat_le (length user) most_user_bytes && list_all is_user_byte user
 
 -- In an id may stand letters and digits of ASCII, '_', '-' and '.'.
 abbrev pub is_id_byte : ℕ → Bool

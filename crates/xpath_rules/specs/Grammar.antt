@@ -142,9 +142,11 @@ operand_text WrittenOperand.TheUser = capital_u ∷ capital_s ∷ capital_e ∷ 
 -- A literal has at most 255 bytes, none of them its quote or a line feed; a number has 1 to 18
 -- digits.
 abbrev pub is_operand : WrittenOperand → Bool
-is_operand (WrittenOperand.Quoted quote bytes) = list_all (is_quotable quote) bytes && nat_le (length bytes) most_literal_bytes
+is_operand (WrittenOperand.Quoted quote bytes) =
+    list_all (is_quotable quote) bytes && nat_le (length bytes) most_literal_bytes
 is_operand (WrittenOperand.Digits negative digits) =
-    list_all is_ascii_digit digits && (nat_lt 0 (length digits) && nat_le (length digits) most_digits)
+    list_all is_ascii_digit digits
+    && (nat_lt 0 (length digits) && nat_le (length digits) most_digits)
 is_operand WrittenOperand.TheUser = true
 
 -- What an operand means for a user: the bytes of a literal, the value of a number, the bytes of the
