@@ -1,6 +1,7 @@
 -- The header of a file, byte by byte. This project's format.
 use Rattle.std.specs.Prelude.{◌≡◌, ℕ, ◌+◌, ◌*◌, ◌/◌, ◌≤◌, List, ◌++◌, length, replicate, codes}
 use Rattle.std.specs.Int.{w16, w32, w64, to_be_bytes}
+use Rattle.acl_model.specs.Limits.{most_names, most_open_elements, most_stream_bytes}
 use Rattle.merkle_chunks.specs.declared.header.Header.{Header}
 
 -- the bytes that each file begins with
@@ -12,11 +13,11 @@ magic = codes "SKIPIDX1"
 pub record IsInRange (h : Header) : Type 0 where
   pub tree : 1 ≤ h.tree
   pub some_tags : 1 ≤ h.tags
-  pub few_tags : h.tags ≤ 256
+  pub few_tags : h.tags ≤ most_names
   pub dictionary : 2 + 2 * h.tags ≤ h.dictionary
   pub some_depth : 1 ≤ h.depth
-  pub low_depth : h.depth ≤ 255
-  pub together : h.tree + h.dictionary ≤ 33554432
+  pub low_depth : h.depth ≤ most_open_elements
+  pub together : h.tree + h.dictionary ≤ most_stream_bytes
   pub check : length h.check ≡ 16
 
 -- the 64 bytes of a header: the magic, the tree's length, the dictionary's length, the number of names, the depth, the

@@ -2,16 +2,17 @@
 -- table is a law. This project's own.
 use Rattle.std.specs.Prelude.{ℕ, zero, suc, ◌/◌, List, [], ◌∷◌, length, map, take, drop}
 use Rattle.std.specs.Simd.{first_chunks}
+use Rattle.merkle_chunks.specs.Layout.{digest_len}
 use Rattle.merkle_chunks.specs.Strings.{node_strings}
 use Rattle.merkle_chunks.specs.Table.{level_count, count_below, each_level}
 
 -- how many digests of 32 bytes bytes are cut into
 abbrev pub width : List ℕ → ℕ
-width bytes = length bytes / 32
+width bytes = length bytes / digest_len
 
 -- these digests
 abbrev pub digests_in : List ℕ → List (List ℕ)
-digests_in bytes = first_chunks 32 (width bytes) bytes
+digests_in bytes = first_chunks digest_len (width bytes) bytes
 
 -- the levels over n fragments that bytes are cut into: each level has the digests behind those of the levels below it
 unfoldable pub levels_in : ℕ → List ℕ → List (List (List ℕ))

@@ -1,3 +1,4 @@
+pub mod Layout
 pub mod HeaderBytes
 pub mod Strings
 pub mod Table

@@ -1,6 +1,7 @@
 -- The strings that are hashed for a file, and their names. This project's format.
 use Rattle.std.specs.Prelude.{ℕ, ◌+◌, List, [], ◌∷◌, ◌++◌, replicate}
 use Rattle.std.specs.Int.{w64, to_be_bytes}
+use Rattle.merkle_chunks.specs.Layout.{digest_len}
 
 -- The name of a string: where it stands in the table, by its level and its index there, both from 0; or it is that of the
 -- root. The leaf of a fragment stands on level 0, and nodes stand on the levels above it.
@@ -26,7 +27,7 @@ root_string header top = 2 ∷ (header ++ top)
 
 -- what stands for a right child that isn't there: 32 zeros
 abbrev pub absent_child : List ℕ
-absent_child = replicate 32 0
+absent_child = replicate digest_len 0
 
 -- the leaf strings of fragments, of which the first has the index i
 abbrev pub leaf_strings : ℕ → List (List ℕ) → List (List ℕ)

@@ -4,6 +4,7 @@ use Rattle.std.specs.Prelude.{◌≡◌, ℕ, zero, suc, ◌+◌, ◌*◌, ◌/�
 use Rattle.std.specs.List.{concat, flat_map, range_with_len, slice_get}
 use Rattle.std.specs.Option.{option_and_then}
 use Rattle.std.specs.Simd.{first_chunks}
+use Rattle.merkle_chunks.specs.Layout.{header_len, digest_len, fragment_len}
 use Rattle.merkle_chunks.specs.Strings.{StringName, spot, root, root_string, leaf_strings, node_strings}
 
 -- ---- how many digests
@@ -44,13 +45,14 @@ pub record IsNode (n level index : ℕ) : Type 0 where
 -- where the node at a level and an index stands in a file: behind the header, the fragments, the levels below it and the
 -- digests before it on its own
 abbrev pub node_place : ℕ → ℕ → ℕ → ℕ
-node_place n level index = 64 + 256 * n + 32 * (count_below n level + index)
+node_place n level index =
+    header_len + fragment_len * n + digest_len * (count_below n level + index)
 
 -- ---- levels of digests
 
 -- the fragments of 256 bytes that bytes are cut into
 abbrev pub fragments : List ℕ → List (List ℕ)
-fragments bytes = first_chunks 256 (length bytes / 256) bytes
+fragments bytes = first_chunks fragment_len (length bytes / fragment_len) bytes
 
 -- what a function gives on each level, from level 0 to the top one over n fragments
 abbrev pub each_level : {A : Type 0} → ℕ → (ℕ → A) → List A

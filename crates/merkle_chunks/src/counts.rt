@@ -1,9 +1,10 @@
 //! How many digests stand on each level of a table, and so where each one stands.
 
 ghost use Rattle.std.specs.Prelude.{◌≡◌, ◌+◌, ◌*◌, ◌≤◌};
+ghost use Rattle.merkle_chunks.specs.Layout.{digest_len};
 ghost use Rattle.merkle_chunks.specs.Table.{level_count, count_below, digest_count, top_level};
 
-use crate::digests::DIGEST_LEN;
+use crate::layout::DIGEST_LEN;
 
 /// The top level of the table over so many fragments: the first one with a single digest.
 pub fn top_level(fragments: u32) -> u32
@@ -20,7 +21,7 @@ pub fn top_level(fragments: u32) -> u32
 
 /// The bytes of the table over so many fragments.
 pub fn table_len(fragments: u32) -> usize
-    ensures { result ≡ 32 * digest_count fragments }
+    ensures { result ≡ digest_len * digest_count fragments }
 {
     DIGEST_LEN * counts_at(fragments, top_level(fragments) + 1).below as usize
 }

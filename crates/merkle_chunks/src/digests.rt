@@ -7,12 +7,6 @@ ghost use Rattle.merkle_chunks.specs.File.{key_check};
 
 use sha2::{Digest as _, Sha256};
 
-/// The bytes of a fragment.
-pub(crate) const FRAGMENT_LEN: usize = 256;
-
-/// The bytes of a digest.
-pub(crate) const DIGEST_LEN: usize = 32;
-
 /// A digest of SHA-256.
 pub type Digest = [u8; 32];
 

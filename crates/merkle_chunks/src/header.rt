@@ -7,12 +7,11 @@ ghost use Rattle.merkle_chunks.specs.Table.{IsNode, node_place};
 ghost use Rattle.merkle_chunks.specs.declared.header.Header.{Header};
 
 use crate::counts::counts_at;
+use crate::layout::{DIGEST_LEN, FRAGMENT_LEN, HEADER_LEN};
+use acl_model::limits::{MOST_NAMES, MOST_OPEN_ELEMENTS, MOST_STREAM_BYTES};
 
 /// What each file begins with.
 const MAGIC: &[u8; 8] = b"SKIPIDX1";
-
-/// The most bytes that tree and dictionary have together.
-const MOST: u64 = 33_554_432;
 
 /// The numbers of a file.
 #[derive(Clone, Copy, Debug, PartialEq, Eq)]
@@ -67,7 +66,7 @@ impl Header {
         requires { IsInRange self.now }
         ensures { result ≡ fragment_count self.now }
     {
-        (self.tree + u64::from(self.dictionary)).div_ceil(256) as u32
+        (self.tree + u64::from(self.dictionary)).div_ceil(FRAGMENT_LEN as u64) as u32
     }
 
     /// Where a node of the table stands in the file of so many fragments.
@@ -76,7 +75,7 @@ impl Header {
         ensures { result ≡ node_place fragments level index }
     {
         let before = counts_at(fragments, level).below + u64::from(index);
-        64 + 256 * u64::from(fragments) + 32 * before
+        HEADER_LEN as u64 + FRAGMENT_LEN as u64 * u64::from(fragments) + DIGEST_LEN as u64 * before
     }
 
     /// Whether the numbers are in their ranges.
@@ -85,12 +84,12 @@ impl Header {
     {
         self.tree >= 1
             && self.tags >= 1
-            && self.tags <= 256
+            && usize::from(self.tags) <= MOST_NAMES
             && self.dictionary >= 2 + 2 * u32::from(self.tags)
             && self.depth >= 1
-            && self.depth <= 255
-            && self.tree <= MOST
-            && self.tree + u64::from(self.dictionary) <= MOST
+            && self.depth <= MOST_OPEN_ELEMENTS
+            && self.tree <= MOST_STREAM_BYTES
+            && self.tree + u64::from(self.dictionary) <= MOST_STREAM_BYTES
     }
 
     /// The numbers that stand at the places of a header's. Where the bytes are a header, it is that one.

@@ -10,6 +10,7 @@ ghost use Rattle.acl_model.specs.Stream.{has_stream, plain};
 ghost use Rattle.acl_model.specs.declared.document.Doc.{Doc};
 ghost use Rattle.aes_block.specs.Aes.{AreBytes};
 ghost use Rattle.position_cipher.specs.Fragments.{locked_fragment, unlocked_fragment};
+ghost use Rattle.merkle_chunks.specs.Layout.{header_len, digest_len, most_fragments, most_top_level, fragment_len};
 ghost use Rattle.merkle_chunks.specs.HeaderBytes.{IsInRange, fragment_count, header_bytes};
 ghost use Rattle.merkle_chunks.specs.Strings.{StringName, absent_child, leaf, leaf_string, node_string, root, root_string, spot};
 ghost use Rattle.merkle_chunks.specs.Table.{IsNode, IsTopLevel, count_below, digest_count, digests_at, each_level, fragments, level_count, node_of, node_place, strings_at, table_bytes, table_levels, top_digest, top_level};
@@ -38,14 +39,14 @@ pub fn levels_have_powers_of_two()
 pub fn the_top_has_the_first_single_digest()
     ensures first { (n : ℕ) → 1 ≤ n → IsTopLevel n (top_level n) }
     ensures one { (n k l : ℕ) → IsTopLevel n k → IsTopLevel n l → k ≡ l }
-    ensures low { (n : ℕ) → n ≤ 131072 → top_level n ≤ 17 }
+    ensures low { (n : ℕ) → n ≤ most_fragments → top_level n ≤ most_top_level }
 {}
 
 /// The bytes of a table over digests of 32 bytes are cut into its levels, and these are the digests of the leaves and the
 /// levels above them.
 pub fn tables_are_cut_into_their_levels()
     ensures cut { (hash : List ℕ → List ℕ) (fragments : List (List ℕ))
-        → ((string : List ℕ) → length (hash string) ≡ 32)
+        → ((string : List ℕ) → length (hash string) ≡ digest_len)
         → levels_in (length fragments) (table_bytes (table_levels hash fragments))
         ≡ table_levels hash fragments }
     ensures above { (hash : List ℕ → List ℕ) (fragments : List (List ℕ))
@@ -65,22 +66,23 @@ pub fn forty_one_fragments_have_85_digests()
 /// the header and the top digest as they stand in it.
 pub fn parts_stand_at_their_places()
     ensures header { (d : Doc) (key : List ℕ)
-        → take 64 (file d key) ≡ header_bytes (document_header d key) }
+        → take header_len (file d key) ≡ header_bytes (document_header d key) }
     ensures fragment { (d : Doc) (key : List ℕ) (index : ℕ)
         → index < length (cipher_fragments d key)
-        → take 256 (drop (64 + 256 * index) (file d key))
+        → take fragment_len (drop (header_len + fragment_len * index) (file d key))
         ≡ slice_index_or (cipher_fragments d key) index [] }
     ensures node { (d : Doc) (key : List ℕ) (level index : ℕ)
         → let n = length (cipher_fragments d key) in IsNode n level index
         → node_of (table_levels sha256 (cipher_fragments d key)) level index
-        ≡ Some (take 32 (drop (node_place n level index) (file d key))) }
+        ≡ Some (take digest_len (drop (node_place n level index) (file d key))) }
     ensures size { (d : Doc) (key : List ℕ)
         → let n = length (cipher_fragments d key) in
-        length (file d key) ≡ 64 + 256 * n + 32 * digest_count n }
+        length (file d key)
+        ≡ header_len + fragment_len * n + digest_len * digest_count n }
     ensures root { (d : Doc) (key : List ℕ)
         → let n = length (cipher_fragments d key) in 1 ≤ n → file_root d key
-        ≡ sha256 (root_string (take 64 (file d key))
-        (take 32 (drop (node_place n (top_level n) 0) (file d key)))) }
+        ≡ sha256 (root_string (take header_len (file d key))
+        (take digest_len (drop (node_place n (top_level n) 0) (file d key)))) }
 {}
 
 /// The plain stream of a document is bytes.

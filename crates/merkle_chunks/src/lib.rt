@@ -5,6 +5,7 @@ mod counts;
 mod digests;
 mod header;
 mod laws;
+pub mod layout;
 mod table;
 mod tree;
 

@@ -3,21 +3,24 @@
 ghost use Rattle.std.specs.Prelude.{◌≡◌, ◌+◌, ◌*◌, ◌/◌, ◌%◌, ◌<◌, ◌≤◌, [], map, length, slice_index_or};
 ghost use Rattle.std.specs.List.{concat};
 ghost use Rattle.sha2.specs.Sha256.{sha256};
+ghost use Rattle.merkle_chunks.specs.Layout.{digest_len, fragment_len};
 ghost use Rattle.merkle_chunks.specs.Strings.{absent_child, node_string, leaf_strings};
 ghost use Rattle.merkle_chunks.specs.Table.{digest_count, fragments, table_bytes, table_levels, top_digest, top_level};
 ghost use Rattle.merkle_chunks.specs.Levels.{digests_in, level_above, levels_above, parents, width};
 
-use crate::digests::{DIGEST_LEN, Digest, FRAGMENT_LEN, leaf_digest, node_digest};
+use crate::digests::{Digest, leaf_digest, node_digest};
+use crate::layout::{DIGEST_LEN, FRAGMENT_LEN};
 
 /// Stands for a right child that isn't there.
-const ABSENT: Digest = [0; 32];
+const ABSENT: Digest = [0; DIGEST_LEN];
 
 /// Hashes each fragment of a cipher once, writes the table over them, and gives its top digest. It takes no memory, so a
 /// file can be made in one piece.
 pub fn write_table(cipher: &[u8], table: &mut [u8]) -> Digest
-    requires whole { length cipher.now % 256 ≡ 0 }
-    requires some { 256 ≤ length cipher.now }
-    requires room { length table.old ≡ 32 * digest_count (length cipher.now / 256) }
+    requires whole { length cipher.now % fragment_len ≡ 0 }
+    requires some { fragment_len ≤ length cipher.now }
+    requires room { length table.old
+        ≡ digest_len * digest_count (length cipher.now / fragment_len) }
     ensures table { table.new ≡ table_bytes (table_levels sha256 (fragments cipher.now)) }
     ensures top { result ≡ top_digest sha256 (fragments cipher.now) }
 {
@@ -28,7 +31,7 @@ pub fn write_table(cipher: &[u8], table: &mut [u8]) -> Digest
 
 /// Writes the digests of all fragments.
 fn write_leaves(cipher: &[u8], level: &mut [u8])
-    requires { length level.old ≡ 32 * (length cipher.now / 256) }
+    requires { length level.old ≡ digest_len * (length cipher.now / fragment_len) }
     ensures { level.new ≡ concat (map sha256 (leaf_strings 0 (fragments cipher.now))) }
 {
     let (fragments, _) = cipher.as_chunks::<FRAGMENT_LEN>();
@@ -40,9 +43,10 @@ fn write_leaves(cipher: &[u8], level: &mut [u8])
 
 /// Writes all levels above a level, and gives the top digest.
 fn write_levels(level: &[u8], above: &mut [u8]) -> Digest
-    requires whole { length level.now % 32 ≡ 0 }
-    requires some { 32 ≤ length level.now }
-    requires room { length above.old + length level.now ≡ 32 * digest_count (width level.now) }
+    requires whole { length level.now % digest_len ≡ 0 }
+    requires some { digest_len ≤ length level.now }
+    requires room { length above.old + length level.now
+        ≡ digest_len * digest_count (width level.now) }
     ensures above { let levels = top_level (width level.now) in
         above.new ≡ table_bytes (levels_above sha256 levels (digests_in level.now)) }
     ensures top { let levels = top_level (width level.now) in
@@ -60,7 +64,7 @@ fn write_levels(level: &[u8], above: &mut [u8]) -> Digest
 
 /// Writes the level of nodes above a level.
 fn write_nodes(below: &[u8], level: &mut [u8])
-    requires { length level.old ≡ 32 * ((width below.now + 1) / 2) }
+    requires { length level.old ≡ digest_len * ((width below.now + 1) / 2) }
     ensures { level.new ≡ concat (parents sha256 (digests_in below.now)) }
 {
     let (digests, _) = below.as_chunks::<DIGEST_LEN>();

@@ -1,12 +1,15 @@
 //! The digests over a file's fragments, in one piece of memory: the table as it stands in the file.
 
 ghost use Rattle.std.specs.Prelude.{◌≡◌, ◌+◌, ◌*◌, ◌/◌, ◌%◌, ◌≤◌, length, IfOk};
+ghost use Rattle.acl_model.specs.Limits.{most_stream_bytes};
 ghost use Rattle.sha2.specs.Sha256.{sha256};
+ghost use Rattle.merkle_chunks.specs.Layout.{digest_len, fragment_len};
 ghost use Rattle.merkle_chunks.specs.Table.{digest_count, fragments, node_of, table_bytes, table_levels};
 ghost use Rattle.merkle_chunks.specs.Levels.{levels_in};
 
 use crate::counts::{counts_at, table_len, top_level};
-use crate::digests::{DIGEST_LEN, Digest, FRAGMENT_LEN};
+use crate::digests::Digest;
+use crate::layout::{DIGEST_LEN, FRAGMENT_LEN};
 use crate::table::write_table;
 use acl_model::Bytes;
 use acl_outside::NoMemory;
@@ -19,7 +22,7 @@ pub struct Tree {
     fragments: u32,
     table: Vec<u8>,
     ghost some: { 1 ≤ fragments },
-    ghost whole: { length table.items ≡ 32 * digest_count fragments },
+    ghost whole: { length table.items ≡ digest_len * digest_count fragments },
 }
 
 impl Model for Tree {
@@ -34,9 +37,9 @@ impl Model for Tree {
 impl Tree {
     /// The tree over the fragments of a cipher. Each fragment is hashed once, where it lies.
     pub fn build(alloc: Global, cipher: &[u8]) -> Result<Tree, NoMemory>
-        requires whole { length cipher.now % 256 ≡ 0 }
-        requires some { 256 ≤ length cipher.now }
-        requires few { length cipher.now ≤ 33554432 }
+        requires whole { length cipher.now % fragment_len ≡ 0 }
+        requires some { fragment_len ≤ length cipher.now }
+        requires few { length cipher.now ≤ most_stream_bytes }
         ensures { IfOk result (λ tree. tree ≡ table_levels sha256 (fragments cipher.now)) }
     {
         let fragments = (cipher.len() / FRAGMENT_LEN) as u32;

@@ -42,7 +42,8 @@ impl Dictionary {
         requires { is_document doc.now ≡ true }
         ensures names { IfOk result (λ d. d ≡ dictionary doc.now) }
         ensures few { OnOk result (length (dictionary doc.now) ≤ most_names) }
-        ensures many { result ≡ Err TagFault.TooManyTags → most_names < length (dictionary doc.now) }
+        ensures many { result ≡ Err TagFault.TooManyTags
+            → most_names < length (dictionary doc.now) }
     {
         let mut dictionary = Dictionary::empty(alloc);
         dictionary.add_element(alloc, &doc.root)?;
