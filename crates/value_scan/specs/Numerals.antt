@@ -2,6 +2,7 @@
 -- the number that acl_model says is a law.
 use Rattle.std.specs.Prelude.{ℕ, ◌+◌, ◌-◌, ◌*◌, ℤ, pos, Bool, true, false, nat_eq, nat_lt, ◌&&◌, Option, Some, None, List, [], ◌∷◌, if◌then◌else◌}
 use Rattle.std.specs.Char.{is_ascii_digit}
+use Rattle.acl_model.specs.Limits.{most_digits}
 use Rattle.acl_model.specs.Ascii.{hyphen}
 use Rattle.acl_model.specs.Numbers.{negative}
 use Rattle.value_scan.specs.declared.numeral.Numeral.{Numeral}
@@ -17,7 +18,7 @@ abbrev pub numeral_after : Numeral → ℕ → Numeral
 numeral_after Start b = if nat_eq b hyphen then Minus else leading_digit false b
 numeral_after Minus b = leading_digit true b
 numeral_after (Digits minus count number) b =
-    if is_ascii_digit b && nat_lt count 18 && nat_lt number 100000000000000000
+    if is_ascii_digit b && nat_lt count most_digits && nat_lt number 100000000000000000
     then Digits minus (count + 1) (number * 10 + (b - 48)) else Unfit
 numeral_after Unfit b = Unfit
 

@@ -5,6 +5,8 @@ ghost use Rattle.acl_model.specs.Numbers.{whole};
 ghost use Rattle.value_scan.specs.Numerals.{leading_digit, numeral_after};
 ghost use Rattle.value_scan.specs.Numerals.{numeral_after_all, number_of};
 
+use acl_model::limits::MOST_DIGITS;
+
 /// The whole number that the bytes so far write.
 #[derive(Debug, Clone, Copy)]
 pub enum Numeral {
@@ -50,7 +52,10 @@ pub fn next_numeral(numeral: Numeral, byte: u8) -> Numeral
             count,
             number,
         } => {
-            if byte.is_ascii_digit() && count < 18 && number < 100_000_000_000_000_000 {
+            if byte.is_ascii_digit()
+                && u32::from(count) < MOST_DIGITS
+                && number < 100_000_000_000_000_000
+            {
                 Numeral::Digits {
                     negative,
                     count: count + 1,
