@@ -3,6 +3,7 @@
 use Rattle.std.specs.Prelude.{◌≡◌, ◌≤◌, ℕ, ◌+◌, Bool, true, false, is_none, not, nat_le, ◌&&◌, Option, Some, None, List, [], ◌∷◌, ◌++◌, length, sum_by, if◌then◌else◌}
 use Rattle.std.specs.List.{list_all}
 use Rattle.std.specs.Option.{option_map_or}
+use Rattle.acl_model.specs.Limits.{most_names, most_rules, most_steps}
 use Rattle.acl_model.specs.Dictionary.{name_number}
 use Rattle.acl_model.specs.Document.{is_dummy_name}
 use Rattle.acl_model.specs.Rules.{numbers_of_sign}
@@ -81,7 +82,7 @@ are_tables states = nat_le (length states) 256 && is_closed false states
 -- Rules are within the limits of a licence, names within those of tags, and no step has a
 -- predicate.
 pub record AreWithinLimits (names : List (List ℕ)) (rules : List Rule) : Type 0 where
-  pub few_rules : length rules ≤ 64
-  pub few_steps : steps_in rules ≤ 256
-  pub few_names : length names ≤ 256
+  pub few_rules : length rules ≤ most_rules
+  pub few_steps : steps_in rules ≤ most_steps
+  pub few_names : length names ≤ most_names
   pub plain : have_no_predicates rules ≡ true

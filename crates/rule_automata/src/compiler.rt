@@ -1,6 +1,7 @@
 //! Turns rules into tables.
 
 ghost use Rattle.std.specs.Prelude.{◌≡◌, ◌≤◌, ◌<◌, ◌+◌, ◌++◌, IfOk, IfSome, length, true};
+ghost use Rattle.acl_model.specs.Limits.{most_names, most_rules};
 ghost use Rattle.acl_model.specs.Dictionary.{name_number};
 ghost use Rattle.acl_model.specs.Document.{is_dummy_name};
 ghost use Rattle.acl_model.specs.Explain.{is_same_sign};
@@ -39,7 +40,7 @@ fn add_states(
     steps: &[Step],
     names: &[Name],
 ) -> Result<(), AllocError>
-    requires { length names.now ≤ 256 }
+    requires { length names.now ≤ most_names }
     ensures { IfOk result (λ done. states.new.items
         ≡ states.old.items ++ rule_states names.now rule steps.now) }
 {
@@ -55,7 +56,7 @@ fn add_states(
 
 /// The tags that pass the test.
 fn tag_test(test: &Test, names: &[Name]) -> TagTest
-    requires { length names.now ≤ 256 }
+    requires { length names.now ≤ most_names }
     ensures { result ≡ tag_test names.now test.now }
 {
     match test {
@@ -89,7 +90,7 @@ fn number_of(name: &[u8], names: &[Name]) -> Option<usize>
 /// The numbers of the rules of a sign.
 #[tactic(auto, using(crate::proofs::StateLists::number_steps))]
 fn numbered(rules: &[Rule], sign: Sign) -> Row
-    requires { length rules.now ≤ 64 }
+    requires { length rules.now ≤ most_rules }
     ensures { result ≡ numbers_of_sign sign rules.now }
 {
     let mut row = Row::none();

@@ -4,6 +4,7 @@
 ghost use Rattle.std.specs.Prelude.{◌≡◌, ◌≤◌, [], ◌∷◌, ℕ, List, Some, length, true, false};
 ghost use Rattle.std.specs.List.{slice_get};
 ghost use Rattle.std.specs.Option.{option_map_or};
+ghost use Rattle.acl_model.specs.Limits.{most_names};
 ghost use Rattle.acl_model.specs.Chain.{Chain, selects, chain_at};
 ghost use Rattle.acl_model.specs.Dictionary.{are_distinct};
 ghost use Rattle.acl_model.specs.Select.{select};
@@ -18,13 +19,14 @@ ghost use Rattle.rule_automata.specs.Run.{is_selected_by};
 /// path selects the element: by the element with its ancestors, and by its place in a document.
 pub fn states_take_the_rules_that_select()
     ensures chain { (names : List (List ℕ)) (rules : List Rule) (tags : List ℕ) (e : Element)
-        (up : Chain) (rule : ℕ) → are_distinct names ≡ true → length names ≤ 256
+        (up : Chain) (rule : ℕ) → are_distinct names ≡ true → length names ≤ most_names
         → have_no_predicates rules ≡ true → AreTagsOf names tags (e ∷ up)
         → is_selected_by (automata_of names rules).states tags rule
         ≡ option_map_or (λ r. selects r.path (e ∷ up)) (slice_get rules rule) false }
     ensures place { (names : List (List ℕ)) (rules : List Rule) (tags : List ℕ) (d : Doc)
         (place : List ℕ) (e : Element) (up : Chain) (rule : ℕ) → are_distinct names ≡ true
-        → length names ≤ 256 → have_no_predicates rules ≡ true → AreTagsOf names tags (e ∷ up)
+        → length names ≤ most_names → have_no_predicates rules ≡ true
+        → AreTagsOf names tags (e ∷ up)
         → chain_at d.root [] place ≡ Some (e ∷ up)
         → is_selected_by (automata_of names rules).states tags rule
         ≡ option_map_or (λ r. select d r.path place) (slice_get rules rule) false }

@@ -2,16 +2,11 @@
 
 ghost use Rattle.std.specs.Prelude.{◌≡◌, ◌↔◌, IsTrue, length, nat_le};
 ghost use Rattle.std.specs.List.{list_all};
+ghost use Rattle.acl_model.specs.Limits.{most_steps};
 ghost use Rattle.rule_automata.specs.Compile.{AreWithinLimits, have_no_predicates, is_empty_of, steps_in};
 
+use acl_model::limits::{MOST_NAMES, MOST_RULES, MOST_STEPS};
 use acl_model::{Name, Rule};
-
-/// The most rules, steps of them all, and names.
-const MOST_RULES: usize = 64;
-
-const MOST_STEPS: usize = 256;
-
-const MOST_NAMES: usize = 256;
 
 /// Whether the rules are within the limits of a licence, have no predicate, and there are tags for
 /// the names.
@@ -30,9 +25,9 @@ pub fn are_within_limits(rules: &[Rule], names: &[Name]) -> bool
 /// Whether the rules have together no more steps than a row has numbers.
 #[tactic(auto, using(crate::proofs::StateLists::step_counts))]
 fn have_few_steps(rules: &[Rule]) -> bool
-    ensures { result ≡ nat_le (steps_in rules.now) 256 }
+    ensures { result ≡ nat_le (steps_in rules.now) most_steps }
 {
-    let mut left = MOST_STEPS;
+    let mut left = MOST_STEPS as usize;
     for rule in rules {
         if rule.path.steps.len() > left {
             return false;
