@@ -1,5 +1,6 @@
 -- What a walk is made with, and the list that it stands by. This project's own.
 use Rattle.std.specs.Prelude.{◌≡◌, ℕ, ◌≤◌, true, Option, List, length, IfSome}
+use Rattle.acl_model.specs.Limits.{most_names}
 use Rattle.acl_model.specs.Document.{is_view_document}
 use Rattle.acl_model.specs.Dictionary.{are_distinct}
 use Rattle.acl_model.specs.declared.document.Doc.{Doc}
@@ -8,7 +9,7 @@ use Rattle.acl_walk.specs.declared.event.Event.{Event}
 
 -- The names of a walk are at most 256, no two the same.
 pub record AreNames (names : List (List ℕ)) : Type 0 where
-  pub few : length names ≤ 256
+  pub few : length names ≤ most_names
   pub distinct : are_distinct names ≡ true
 
 -- The list spells the document, or nothing, under the names; and the document is a view document.

@@ -4,6 +4,7 @@ use Rattle.std.proofs.Common.{ap, ◌∙◌, arith, length-append}
 use Rattle.std.specs.Cmp.{second_so}
 use Rattle.std.proofs.lemmas.List.{length-map}
 use Rattle.std.proofs.lemmas.Bool.Decides.{nat_tests}
+use Rattle.acl_model.specs.Limits.{most_open_elements}
 use Rattle.acl_model.specs.declared.document.Doc.{Doc}
 use Rattle.acl_walk.specs.Following.{Goes}
 use Rattle.acl_walk.specs.Listed.{AreNames, IsListOf}
@@ -72,7 +73,7 @@ pub tree_few_open : (k : Tree) (s : TreeSpot) → IsSpotOf k s → length (tags_
 tree_few_open k s made = omega (arith, made.few_open, length-map s.levels (λ (level : OpenElement). level.tag))
 
 -- At most 255 elements stand in each other.
-pub tree_shallow : (k : Tree) (s : TreeSpot) → IsSpotOf k s → tree_depth k ≤ 255
+pub tree_shallow : (k : Tree) (s : TreeSpot) → IsSpotOf k s → tree_depth k ≤ most_open_elements
 tree_shallow k s made =
     let low : nat_le (tree_depth k) 255 ≡ true = second_so _ (nat_le (tree_depth k) 255) made.walked.formed in
     grind (arith, nat_tests, low)

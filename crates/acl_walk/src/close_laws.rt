@@ -3,6 +3,7 @@
 
 ghost use Rattle.std.specs.Prelude.{◌≡◌, ℕ, ◌<◌, ◌≤◌, true, Some, is_some, List, [], ◌∷◌, length, codes};
 ghost use Rattle.std.specs.List.{list_any};
+ghost use Rattle.acl_model.specs.Limits.{most_names};
 ghost use Rattle.acl_model.specs.Places.{at};
 ghost use Rattle.acl_model.specs.Predicates.{holds};
 ghost use Rattle.acl_model.specs.declared.document.Doc.{Doc};
@@ -23,18 +24,18 @@ ghost use Rattle.acl_walk.specs.declared.event.Event.{Event};
 /// the list, between the Begin of its bearer and the Finish.
 pub fn predicates_close_where_they_are_met()
     ensures met { (names : List (List ℕ)) (d : Doc) (list : List Event) (bearer : List ℕ)
-        → (e : Element) (pred : Pred) → length names ≤ 256
+        → (e : Element) (pred : Pred) → length names ≤ most_names
         → Spells names (Some d) list → at d bearer ≡ Some e
         → list_any (is_met_at d list bearer pred) (counted (length list)) ≡ holds pred e }
     ensures closes { (names : List (List ℕ)) (d : Doc) (list : List Event) (bearer : List ℕ)
-        → (e : Element) (pred : Pred) → length names ≤ 256
+        → (e : Element) (pred : Pred) → length names ≤ most_names
         → Spells names (Some d) list → at d bearer ≡ Some e
         → is_some (close d list bearer pred) ≡ true }
     ensures within { (d : Doc) (list : List Event) (bearer : List ℕ) (pred : Pred) (i : ℕ)
         → close d list bearer pred ≡ Some i → i < length list }
     ensures inside { (names : List (List ℕ)) (d : Doc) (list : List Event) (bearer : List ℕ)
         → (pred : Pred) (begin i finish : ℕ)
-        → length names ≤ 256 → Spells names (Some d) list → close d list bearer pred ≡ Some i
+        → length names ≤ most_names → Spells names (Some d) list → close d list bearer pred ≡ Some i
         → begins_at list bearer begin ≡ true → finishes_at list bearer finish ≡ true
         → (begin ≤ i) × (i ≤ finish) }
 {}

@@ -2,6 +2,7 @@
 //! walked. These functions do nothing: their contracts are the laws.
 
 ghost use Rattle.std.specs.Prelude.{◌≡◌, ℕ, ◌^◌, ◌-◌, ◌<◌, ◌≤◌, true, Some, List, length};
+ghost use Rattle.acl_model.specs.Limits.{most_names};
 ghost use Rattle.acl_model.specs.Dictionary.{dictionary};
 ghost use Rattle.acl_model.specs.Document.{is_document};
 ghost use Rattle.acl_model.specs.Places.{at};
@@ -16,7 +17,7 @@ ghost use Rattle.acl_walk.specs.declared.event.Event.{Event};
 /// The element at each place of a document stands in each list that spells the document.
 pub fn elements_stand_in_the_list()
     ensures { (names : List (List ℕ)) (d : Doc) (list : List Event) (place : List ℕ) (e : Element)
-        → length names ≤ 256 → Spells names (Some d) list → at d place ≡ Some e
+        → length names ≤ most_names → Spells names (Some d) list → at d place ≡ Some e
         → StandsInList names list place e }
 {}
 
@@ -24,10 +25,10 @@ pub fn elements_stand_in_the_list()
 /// most one finishes.
 pub fn elements_begin_once()
     ensures begins { (names : List (List ℕ)) (d : Doc) (list : List Event) (place : List ℕ)
-        (i j : ℕ) → length names ≤ 256 → Spells names (Some d) list
+        (i j : ℕ) → length names ≤ most_names → Spells names (Some d) list
         → begins_at list place i ≡ true → begins_at list place j ≡ true → i ≡ j }
     ensures finishes { (names : List (List ℕ)) (d : Doc) (list : List Event) (place : List ℕ)
-        (i j : ℕ) → length names ≤ 256 → Spells names (Some d) list
+        (i j : ℕ) → length names ≤ most_names → Spells names (Some d) list
         → finishes_at list place i ≡ true → finishes_at list place j ≡ true → i ≡ j }
 {}
 
@@ -40,7 +41,7 @@ pub fn spelled_documents_are_known()
 /// A document can be walked under its dictionary, where that has at most 256 names and the text has
 /// fewer than 2^64 - 1 bytes.
 pub fn documents_can_be_walked()
-    ensures { (d : Doc) → is_document d ≡ true → length (dictionary d) ≤ 256
+    ensures { (d : Doc) → is_document d ≡ true → length (dictionary d) ≤ most_names
         → length (text d) < 2 ^ 64 - 1
         → CanBeWalked (record { doc = d; names = dictionary d }) }
 {}

@@ -2,6 +2,7 @@
 //! the laws.
 
 ghost use Rattle.std.specs.Prelude.{◌≡◌, ℕ, ◌+◌, ◌≤◌, true, false, Some, List, [], length};
+ghost use Rattle.acl_model.specs.Limits.{most_names};
 ghost use Rattle.acl_model.specs.Document.{height, is_view_document};
 ghost use Rattle.acl_model.specs.Text.{text};
 ghost use Rattle.acl_model.specs.declared.document.Doc.{Doc};
@@ -24,7 +25,7 @@ pub fn spelled_lists_nest()
 /// The lines that a list tells are the text of the document that it spells.
 pub fn spelled_lists_tell_texts()
     ensures { (names : List (List ℕ)) (d : Doc) (events : List Event) (tag : ℕ)
-        → length names ≤ 256 → Spells names (Some d) events
+        → length names ≤ most_names → Spells names (Some d) events
         → text_of_events names tag false events ≡ text d }
 {}
 

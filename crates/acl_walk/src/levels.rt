@@ -4,11 +4,12 @@ ghost use Rattle.std.specs.Prelude.{◌≡◌, ◌<◌, ◌≤◌, [], ◌∷◌
 ghost use Rattle.acl_walk.specs.OpenElements.{with_item, NothingLeft, Closes};
 
 use acl_model::Item;
+use acl_model::limits::MOST_OPEN_ELEMENTS;
 use std::alloc::{AllocError, Global};
 use std::marker::Model;
 
 /// One more than the most elements that can stand in each other in a view document.
-const ROOM: usize = 256;
+const ROOM: usize = MOST_OPEN_ELEMENTS as usize + 1;
 
 /// An open element.
 #[derive(Clone, Copy, Debug)]

@@ -2,6 +2,7 @@
 //! functions do nothing: their contracts are the laws.
 
 ghost use Rattle.std.specs.Prelude.{◌≡◌, ℕ, ◌<◌, ◌≤◌, Some, List, [], ◌∷◌, length};
+ghost use Rattle.acl_model.specs.Limits.{most_names};
 ghost use Rattle.acl_model.specs.Places.{prefixes};
 ghost use Rattle.acl_model.specs.declared.document.Doc.{Doc};
 ghost use Rattle.acl_walk.specs.Open.{OpenPlace, open_at, tags_at, places_of};
@@ -22,7 +23,7 @@ pub fn open_places_are_prefixes()
 /// all that it leaves out is inside that element. Where no element is open it leads nowhere.
 pub fn passes_lead_to_the_finish()
     ensures finish { (names : List (List ℕ)) (d : Doc) (list : List Event) (old new : ℕ)
-        → length names ≤ 256 → Spells names (Some d) list → 0 < length (open_at list old)
+        → length names ≤ most_names → Spells names (Some d) list → 0 < length (open_at list old)
         → PassesTo (tags_at list old) list old new → IsPass list old new }
     ensures stays { (list : List Event) (old new : ℕ) → open_at list old ≡ []
         → PassesTo (tags_at list old) list old new → new ≡ old }

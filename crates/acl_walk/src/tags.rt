@@ -1,6 +1,7 @@
 //! Which tag an element has, and what is told of those inside it.
 
 ghost use Rattle.std.specs.Prelude.{◌≡◌, ◌≤◌, length, is_some};
+ghost use Rattle.acl_model.specs.Limits.{most_names};
 ghost use Rattle.acl_model.specs.Document.{is_dummy_name};
 ghost use Rattle.acl_model.specs.Dictionary.{name_number};
 ghost use Rattle.acl_model.specs.Places.{element_of};
@@ -14,7 +15,7 @@ const DUMMY: u16 = 256;
 
 /// The tag of a name.
 pub(crate) fn tag_of(names: &[Name], name: &[u8]) -> u16
-    requires { length names.now ≤ 256 }
+    requires { length names.now ≤ most_names }
     ensures { result ≡ tag_number names.now name.now }
 {
     if is_dummy(name) {
@@ -42,7 +43,7 @@ pub(crate) fn number_of(names: &[Name], name: &[u8]) -> Option<usize>
 
 /// The set that is told of an element with these items, under so many names.
 pub(crate) fn below_of(names: usize, items: &[Item]) -> Row
-    requires { names ≤ 256 }
+    requires { names ≤ most_names }
     ensures { result ≡ told_below names items.now }
 {
     if may_hold_element(items) {

@@ -1,6 +1,7 @@
 //! One step along the events of a tree, from a place in it to the next.
 
 ghost use Rattle.std.specs.Prelude.{◌≡◌, ℕ, ◌<◌, ◌≤◌, ◌++◌, List, length};
+ghost use Rattle.acl_model.specs.Limits.{most_names, most_open_elements};
 ghost use Rattle.acl_walk.specs.OpenElements.{OpenElement, tags_of, content_to_come, finish_to_come};
 ghost use Rattle.acl_walk.specs.TreeEvents.{attribute_events, text_events, element_events};
 ghost use Rattle.acl_walk.specs.TreeSteps.{head_to_come, to_come, IsInside, Steps};
@@ -30,8 +31,8 @@ pub(crate) enum Now<'a> {
 
 /// The event at a place, and the place behind it.
 pub(crate) fn step<'a>(levels: &mut Levels<'a>, now: Now<'a>, names: &[Name]) -> (Event, Now<'a>)
-    requires names { length names.now ≤ 256 }
-    requires room { length levels.old ≤ 255 }
+    requires names { length names.now ≤ most_names }
+    requires room { length levels.old ≤ most_open_elements }
     requires inside { IsInside now levels.old }
     ensures { Steps names.now result.0 (to_come names.now now.entry levels.old) (tags_of levels.old)
         result.1 levels.new }
@@ -48,8 +49,8 @@ pub(crate) fn step<'a>(levels: &mut Levels<'a>, now: Now<'a>, names: &[Name]) ->
 
 /// Begins an element.
 fn begin<'a>(levels: &mut Levels<'a>, element: &'a Element, names: &[Name]) -> (Event, Now<'a>)
-    requires names { length names.now ≤ 256 }
-    requires room { length levels.old ≤ 255 }
+    requires names { length names.now ≤ most_names }
+    requires room { length levels.old ≤ most_open_elements }
     ensures { Steps names.now result.0
         (element_events names.now element.now ++ content_to_come names.now levels.old)
         (tags_of levels.old) result.1 levels.new }
@@ -92,8 +93,8 @@ fn attribute<'a>(bytes: &'a [u8], raws: &'a [Bytes]) -> (Event, Now<'a>)
 
 /// Goes on in a content.
 fn content<'a>(levels: &mut Levels<'a>, names: &[Name]) -> (Event, Now<'a>)
-    requires names { length names.now ≤ 256 }
-    requires room { length levels.old ≤ 255 }
+    requires names { length names.now ≤ most_names }
+    requires room { length levels.old ≤ most_open_elements }
     ensures { Steps names.now result.0 (content_to_come names.now levels.old) (tags_of levels.old)
         result.1 levels.new }
 {

@@ -1,6 +1,7 @@
 //! A walk over a tree: each event is read where it stands in the tree, and none is refused.
 
 ghost use Rattle.std.specs.Prelude.{◌≡◌, ◌^◌, ◌<◌, ◌≤◌, true, length};
+ghost use Rattle.acl_model.specs.Limits.{most_names};
 ghost use Rattle.acl_model.specs.Document.{is_view_document};
 ghost use Rattle.acl_model.specs.Dictionary.{are_distinct};
 ghost use Rattle.acl_walk.specs.TreeEvents.{document_events};
@@ -46,7 +47,7 @@ impl<'a> TreeWalk<'a> {
     /// A walk over the document, under names of which a tag is the place. It takes no memory.
     pub fn new(doc: &'a Doc, names: &'a [Name]) -> TreeWalk<'a>
         requires document { is_view_document doc.now ≡ true }
-        requires few { length names.now ≤ 256 }
+        requires few { length names.now ≤ most_names }
         requires distinct { are_distinct names.now ≡ true }
         requires known { knows names.now doc.now ≡ true }
         requires short { length (document_events names.now doc.now) < 2 ^ 64 }

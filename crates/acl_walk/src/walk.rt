@@ -2,6 +2,7 @@
 //! spots are functions of it: so a call leaves the spots that it isn't handed as they are.
 
 ghost use Rattle.std.specs.Prelude.{◌≡◌, ℕ, ◌+◌, ◌-◌, ◌^◌, ◌<◌, ◌≤◌, Bool, true, Option, Some, None, Err, List, [], ◌∷◌, length, min, IfOk, IfErr, IfSome, OnOk};
+ghost use Rattle.acl_model.specs.Limits.{most_open_elements};
 ghost use Rattle.acl_model.specs.declared.document.Doc.{Doc};
 ghost use Rattle.acl_outside.specs.declared.read_fault.ReadFault.{ReadFault};
 ghost use Rattle.acl_walk.specs.Listed.{AreNames, IsListOf};
@@ -165,7 +166,7 @@ pub trait Walk: Drop {
     ghost few_open: { (k : Fixed) (s : Self.Spot) → made k s → length (stage k s).tags ≤ deep k };
 
     /// At most 255 elements are open at once.
-    ghost shallow: { (k : Fixed) (s : Self.Spot) → made k s → deep k ≤ 255 };
+    ghost shallow: { (k : Fixed) (s : Self.Spot) → made k s → deep k ≤ most_open_elements };
 
     /// The names are at most 256, no two the same.
     ghost named: { (k : Fixed) (s : Self.Spot) → made k s → AreNames (names k) };

@@ -7,6 +7,7 @@ ghost use Rattle.acl_walk.specs.TreeState.{CanBeWalked, is_known, knows};
 
 use crate::counting::is_short;
 use crate::tags::{is_dummy, number_of};
+use acl_model::limits::MOST_NAMES;
 use acl_model::{Doc, Element, Item, Name, is_view_document};
 
 /// Whether a document can be walked under the names. The tree is looked through once for its form,
@@ -14,7 +15,7 @@ use acl_model::{Doc, Element, Item, Name, is_view_document};
 pub fn can_be_walked(doc: &Doc, names: &[Name]) -> bool
     ensures { (result ≡ true) ↔ CanBeWalked (record { doc = doc.now; names = names.now }) }
 {
-    names.len() <= 256
+    names.len() <= MOST_NAMES
         && are_distinct(names)
         && is_view_document(doc)
         && knows(names, doc)
