@@ -23,8 +23,9 @@ use Rattle.merkle_chunks.proofs.StreamBytes.{fragment_unlocks}
 use Rattle.position_cipher.specs.Fragments.{unlocked_fragment}
 use Rattle.fragment_open.specs.declared.kept.Kept.{Kept}
 use Rattle.fragment_open.specs.Openings.{Opening, index_of, indexes, openings}
+use Rattle.fragment_open.specs.Plain.{newest_plain, plain_of}
 use Rattle.fragment_open.specs.Asks.{ask_of, goal_level, index_at, leaf_ask, same_chunk, sibling_ask, sibling_asks, to_chunk}
-use Rattle.fragment_open.specs.Served.{IsRegular, asks_by, fragments_served, header_served}
+use Rattle.fragment_open.specs.Served.{IsRegular, asks_by, fragments_served, header_served, top_served}
 use Rattle.fragment_open.specs.Hashed.{chunk_digest, digest_at, folded, folded_in, wanted, wanted_in}
 use Rattle.fragment_open.specs.Good.{AreGood}
 use Rattle.fragment_open.specs.Told.{Told, is_whole}
@@ -71,7 +72,7 @@ good-within : (n : ℕ) (top : List ℕ) (os : List Opening) → AreGood sha256 
 good-within n top [] good = refl
 good-within n top (o ∷ os) good = and_true (nat_lt (index_of o) n) (list_all (λ index. nat_lt index n) (map index_of os)) (lt-ltb (index_of o) n good.0) (good-within n top os good.3)
 
-count_served : (h : Header) (s : List StoreRead) → header_served s ≡ Some h → fragments_served s ≡ fragment_count h
+pub count_served : (h : Header) (s : List StoreRead) → header_served s ≡ Some h → fragments_served s ≡ fragment_count h
 count_served h s found = ap (λ (o : Option Header). option_map_or fragment_count o 0) found
 
 pub settled-regular : (h : Header) (top : List ℕ) (kept : Option Kept) (s : List StoreRead) → IsSettled h top kept s → IsRegular s
@@ -86,16 +87,20 @@ settled-regular h top kept s is = record {
 pub unrefused_without : (reads : List StoreRead) → folded sha256 reads ≡ None → FoldAsWanted reads
 unrefused_without reads none made folds = absurd (true≢false (sym (ap is_some (sym none ∙ folds))))
 
-pub settled-unrefused : (h : Header) (top : List ℕ) (kept : Option Kept) (s : List StoreRead) → IsSettled h top kept s → FoldAsWanted s
+-- after good openings the newest folds to what is wanted of it
+pub good-unrefused : (h : Header) (top : List ℕ) (s : List StoreRead) → header_served s ≡ Some h → top_served s ≡ Some top → AreGood sha256 (fragment_count h) top (openings s) → FoldAsWanted s
 unfolding folded wanted
-settled-unrefused h top kept s is made folds =
+good-unrefused h top s header_is top_is are_good made folds =
     let n : ℕ = fragment_count h in
-    let count : fragments_served s ≡ n = count_served h s is.header_is in
-    (λ j. wanted_in sha256 (count j) (is.top_is j) (openings s)) ∙ by (openings s) is.good (ap (λ (m : ℕ). folded_in sha256 m (openings s)) (sym count) ∙ folds)
+    let count : fragments_served s ≡ n = count_served h s header_is in
+    (λ j. wanted_in sha256 (count j) (top_is j) (openings s)) ∙ by (openings s) are_good (ap (λ (m : ℕ). folded_in sha256 m (openings s)) (sym count) ∙ folds)
   where
     by : (os : List Opening) → AreGood sha256 (fragment_count h) top os → folded_in sha256 (fragment_count h) os ≡ Some made → wanted_in sha256 (fragment_count h) (Some top) os ≡ Some made
     by [] good there = absurd (true≢false (sym (ap is_some there)))
     by (o ∷ os) good there = sym good.2 ∙ there
+
+pub settled-unrefused : (h : Header) (top : List ℕ) (kept : Option Kept) (s : List StoreRead) → IsSettled h top kept s → FoldAsWanted s
+settled-unrefused h top kept s is = good-unrefused h top s is.header_is is.top_is is.good
 
 pub sibling_asks-front : (n i low high : ℕ) → low ≤ high → (rest : List (ℕ × ℕ)) × (sibling_asks n i high ≡ sibling_asks n i low ++ rest)
 sibling_asks-front n i low zero le = let same : low ≡ 0 = omega arith in ([], ap (sibling_asks n i) (sym same) ∙ sym (append-nil (sibling_asks n i low)))
@@ -114,14 +119,14 @@ module _ (h : Header) (top : List ℕ) (kept : Option Kept) (s : List StoreRead)
   two : 2 ≤ length s
   two = two_reads s top is.top_is
 
-  header_more : (t : List StoreRead) → header_served (s ++ t) ≡ Some h
+  pub header_more : (t : List StoreRead) → header_served (s ++ t) ≡ Some h
   header_more t = header_served-more s t h is.header_is
 
   module _ (l : ℕ) (o : Opening) (t : List StoreRead) (a : IsAsked (fragment_count h) i l o t) where
-    index : index_of o ≡ i
+    pub index : index_of o ≡ i
     index = asked-index (fragment_count h) i l o t a
 
-    opened : openings (s ++ t) ≡ o ∷ openings s
+    pub opened : openings (s ++ t) ≡ o ∷ openings s
     opened = openings-more (fragment_count h) i l o s t two a
 
     pub indexes-more : indexes (s ++ t) ≡ i ∷ indexes s
@@ -147,13 +152,16 @@ module _ (h : Header) (top : List ℕ) (kept : Option Kept) (s : List StoreRead)
               ∙ and_true (nat_lt i (fragment_count h)) (list_all (λ k. nat_lt k (fragment_count h)) (indexes s)) (lt-ltb i (fragment_count h) lt) (good-within (fragment_count h) top (openings s) is.good);
         }
 
-    -- where the opening doesn't come to its goal, no refusal stands in the reads
-    unrefused : (goal : ℕ) → goal ≡ goal_level (fragment_count h) i (indexes s) → digest_at sha256 (fragment_count h) o goal ≡ None → FoldAsWanted (s ++ t)
+    -- where the opening doesn't come to its goal, the reads fold to nothing
+    pub folds_none : (goal : ℕ) → goal ≡ goal_level (fragment_count h) i (indexes s) → digest_at sha256 (fragment_count h) o goal ≡ None → folded sha256 (s ++ t) ≡ None
     unfolding folded
-    unrefused goal at lacks =
-        unrefused_without (s ++ t)
-        ((λ j. folded_in sha256 (count_served h (s ++ t) (header_more t) j) (opened j))
-        ∙ ap (digest_at sha256 (fragment_count h) o) (ap (λ (k : ℕ). goal_level (fragment_count h) k (indexes s)) index ∙ sym at) ∙ lacks)
+    folds_none goal at lacks =
+        (λ j. folded_in sha256 (count_served h (s ++ t) (header_more t) j) (opened j))
+        ∙ ap (digest_at sha256 (fragment_count h) o) (ap (λ (k : ℕ). goal_level (fragment_count h) k (indexes s)) index ∙ sym at) ∙ lacks
+
+    -- and no refusal stands in them
+    unrefused : (goal : ℕ) → goal ≡ goal_level (fragment_count h) i (indexes s) → digest_at sha256 (fragment_count h) o goal ≡ None → FoldAsWanted (s ++ t)
+    unrefused goal at lacks = unrefused_without (s ++ t) (folds_none goal at lacks)
 
     -- what the newest opening folds to, and what is wanted of it
     folded-more : (goal : ℕ) (digest : List ℕ) → goal ≡ goal_level (fragment_count h) i (indexes s) → digest_at sha256 (fragment_count h) o goal ≡ Some digest
@@ -174,7 +182,7 @@ module _ (h : Header) (top : List ℕ) (kept : Option Kept) (s : List StoreRead)
     unfolding wanted
     wanted_reads want by = (λ j. wanted_in sha256 (count_served h (s ++ t) (header_more t) j) (top_served-more s t top is.top_is j) (opened j)) ∙ wanted-more want by
 
-  goal_is : (goal : ℕ) → goal ≡ (if goes_to_chunk (top_level (fragment_count h)) i kept then 4 else top_level (fragment_count h)) → goal ≡ goal_level (fragment_count h) i (indexes s)
+  pub goal_is : (goal : ℕ) → goal ≡ (if goes_to_chunk (top_level (fragment_count h)) i kept then 4 else top_level (fragment_count h)) → goal ≡ goal_level (fragment_count h) i (indexes s)
   goal_is goal by = by ∙ ap (λ (v : Bool). if v then 4 else top_level (fragment_count h)) (goes-is (fragment_count h) i kept (openings s) is.kept_is)
 
   -- ---- a good opening
@@ -310,6 +318,10 @@ module _ (h : Header) (top : List ℕ) (kept : Option Kept) (s : List StoreRead)
     (goal : ℕ) (cipher chunk digest want : List ℕ) (t : List StoreRead) (o : IsOpened (fragment_count h) i goal cipher chunk digest t)
     (aim : goal ≡ (if goes_to_chunk (top_level (fragment_count h)) i kept then 4 else top_level (fragment_count h)))
     (by : want ≡ want_by (top_level (fragment_count h)) i kept top) (same : digest ≡ want) where
+  -- the bytes are the plain ones of the opening
+  pub plain_is : (key into : List ℕ) → into ≡ unlocked_fragment key i cipher → plain_of key o.opening ≡ into
+  plain_is key into unlocked = (λ j. unlocked_fragment key (index h top kept s is i lt goal o.opening t o.asked j) (o.bytes j)) ∙ sym unlocked
+
   pub fetched : (key into : List ℕ) → AreBytes 16 key → IsInRange h → into ≡ unlocked_fragment key i cipher → IsFetched i h top key into (s ++ t)
   fetched key into key_bytes range unlocked =
       let settled = settled-more h top kept s is i lt goal cipher chunk digest want t o aim by same in
@@ -321,6 +333,8 @@ module _ (h : Header) (top : List ℕ) (kept : Option Kept) (s : List StoreRead)
         newest = (indexes s, indexes-more h top kept s is i lt goal o.opening t o.asked);
         folds = folds ∙ ap (λ (d : List ℕ). Some d) same ∙ sym (wanted_reads h top kept s is i lt goal o.opening t o.asked want by);
         there = ap is_some folds;
+        plain_is = ap (newest_plain key) (opened h top kept s is i lt goal o.opening t o.asked)
+            ∙ ap (λ (l : List ℕ). Some l) (plain_is key into unlocked);
         gives = λ d document has none.
             fragment_is d key h top (s ++ t) document key_bytes range settled.header_is settled.top_is has none i o.opening (openings s) cipher into lt
             (index h top kept s is i lt goal o.opening t o.asked) o.bytes (opened h top kept s is i lt goal o.opening t o.asked) settled.good unlocked;

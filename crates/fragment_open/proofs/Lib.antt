@@ -12,5 +12,6 @@ pub mod SinceLemmas
 pub mod FetchLemmas
 pub mod DocumentLemmas
 pub mod TellLemmas
+pub mod CheckedLemmas
 pub mod RegularLemmas
 pub mod HonestLemmas

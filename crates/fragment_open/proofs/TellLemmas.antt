@@ -19,10 +19,10 @@ use Rattle.fragment_open.proofs.ClimbLemmas.{Told-weaker}
 use Rattle.fragment_open.proofs.SinceLemmas.{asked-no_start, since-append}
 use Rattle.fragment_open.proofs.FetchLemmas.{bad_fragment, fetched, indexes-more, not_opened-ends, not_opened-opens, settled-more}
 
-opened-no_start : (n i goal : ℕ) (cipher chunk digest : List ℕ) (t : List StoreRead) → IsOpened n i goal cipher chunk digest t → list_any is_start t ≡ false
+pub opened-no_start : (n i goal : ℕ) (cipher chunk digest : List ℕ) (t : List StoreRead) → IsOpened n i goal cipher chunk digest t → list_any is_start t ≡ false
 opened-no_start n i goal cipher chunk digest t o = asked-no_start n i goal o.opening t o.asked
 
-not_opened-no_start : (n i goal : ℕ) (fault : ReadFault) (t : List StoreRead) → IsNotOpened n i goal fault t → list_any is_start t ≡ false
+pub not_opened-no_start : (n i goal : ℕ) (fault : ReadFault) (t : List StoreRead) → IsNotOpened n i goal fault t → list_any is_start t ≡ false
 not_opened-no_start n i goal (StoreShort to) t f = asked-no_start n i f.0.level f.0.opening t f.0.asked
 not_opened-no_start n i goal StoreFault t (inl none) = ap (list_any is_start) none
 not_opened-no_start n i goal StoreFault t (inr f) = asked-no_start n i f.0.level f.0.opening t f.0.asked

@@ -1,4 +1,5 @@
 pub mod Openings
+pub mod Plain
 pub mod Asks
 pub mod Served
 pub mod Hashed

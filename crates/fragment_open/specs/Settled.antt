@@ -1,5 +1,5 @@
 -- What an opener's reads say between its calls, and how a call of it ends. This project's own.
-use Rattle.std.specs.Prelude.{◌≡◌, ◌≢◌, ◌⊎◌, ℕ, ◌/◌, ◌<◌, Bool, true, false, ◌&&◌, nat_eq, nat_lt, if◌then◌else◌, is_some, Option, Some, None, IfSome, Result, Ok, Err, List, [], ◌∷◌, map, slice_index_or}
+use Rattle.std.specs.Prelude.{◌≡◌, ◌≢◌, ◌⊎◌, ℕ, ◌/◌, ◌<◌, Bool, true, false, ◌&&◌, nat_eq, nat_lt, if◌then◌else◌, is_some, Option, Some, None, IfSome, Result, Ok, Err, List, [], ◌∷◌, ◌++◌, map, slice_index_or}
 use Rattle.std.specs.List.{list_all, list_any}
 use Rattle.sha2.specs.Sha256.{sha256}
 use Rattle.acl_model.specs.Document.{is_document}
@@ -15,6 +15,7 @@ use Rattle.merkle_chunks.specs.Table.{fragments, top_level}
 use Rattle.merkle_chunks.specs.declared.header.Header.{Header}
 use Rattle.fragment_open.specs.declared.kept.Kept.{Kept}
 use Rattle.fragment_open.specs.Openings.{Opening, index_of, indexes, openings}
+use Rattle.fragment_open.specs.Plain.{newest_plain, plain_served}
 use Rattle.fragment_open.specs.Asks.{ask_of}
 use Rattle.fragment_open.specs.Served.{IsRegular, asks_by, header_served, top_served}
 use Rattle.fragment_open.specs.Hashed.{chunk_digest, folded, wanted}
@@ -79,14 +80,16 @@ AreHeld held header top key kept =
 
 -- ---- how a call ends
 
--- A fragment was opened: the reads are those that an opener makes and came whole, the newest opening is of it and folds to what is wanted, and the
--- bytes are the document's fragment, whatever document's file has the root, or there is a clash with its strings.
+-- A fragment was opened: the reads are those that an opener makes and came whole, the newest opening is of it and folds to what is wanted, the
+-- bytes are the plain ones of that opening, and they are the document's fragment, whatever document's file has the root, or there is a clash with
+-- its strings.
 pub record IsFetched (index : ℕ) (header : Header) (top key bytes : List ℕ) (reads : List StoreRead) : Type 0 where
   pub regular : IsRegular reads
   pub all_whole : list_all is_whole reads ≡ true
   pub newest : (before : List ℕ) × (indexes reads ≡ index ∷ before)
   pub folds : folded sha256 reads ≡ wanted sha256 reads
   pub there : is_some (folded sha256 reads) ≡ true
+  pub plain_is : newest_plain key (openings reads) ≡ Some bytes
   pub gives : (d : Doc) → is_document d ≡ true → HasRoot d key (root_by header top) → reads_clash reads d key ≡ false
       → bytes ≡ slice_index_or (fragments (plain d)) index []
 
@@ -122,6 +125,21 @@ OpensOne (Err fault) index before after = (after ≡ index ∷ before) ⊎ (afte
 abbrev pub Opens : {T : Type 0} → Result T ReadFault → ℕ → Option (List StoreRead) → Option (List StoreRead) → Type 0
 Opens result index before after =
     IfSome before (λ old. IfSome after (λ new. OpensOne result index (indexes (since old)) (indexes (since new))))
+
+-- after Ok the plain bytes of the fragments opened since the opener's start are those of before and,
+-- behind them, the bytes that the call gave
+abbrev pub AddsPlain : {T : Type 0} → Result T ReadFault → List ℕ → List ℕ → Option (List StoreRead) → Option (List StoreRead) → Type 0
+AddsPlain (Ok done) key bytes before after =
+    IfSome before (λ old. IfSome after (λ new.
+    plain_served key (since new) ≡ plain_served key (since old) ++ bytes))
+AddsPlain (Err fault) key bytes before after = Unit {0}
+
+-- a call of an opener left its fragment unopened: it added no opening, or the newest one didn't come
+-- to its goal
+abbrev pub OpensNone : Option (List StoreRead) → Option (List StoreRead) → Type 0
+OpensNone before after =
+    IfSome before (λ old. IfSome after (λ new.
+    (indexes (since new) ≡ indexes (since old)) ⊎ (folded sha256 (since new) ≡ None)))
 
 -- ---- the aim of the next opening, by what is kept
 

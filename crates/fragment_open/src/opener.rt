@@ -8,10 +8,11 @@ ghost use Rattle.acl_outside.specs.Outside.{NotFallen, Rose};
 ghost use Rattle.merkle_chunks.specs.HeaderBytes.{fragment_count};
 ghost use Rattle.merkle_chunks.specs.File.{file_root};
 ghost use Rattle.merkle_chunks.specs.Table.{fragments};
+ghost use Rattle.fragment_open.specs.Checked.{AreOpeningsChecked, is_bad_fragment};
 ghost use Rattle.fragment_open.specs.Told.{Told};
 ghost use Rattle.fragment_open.specs.Held.{IsQuietElse, IsStoreFault};
 ghost use Rattle.fragment_open.specs.Starting.{HoldsDocument, IsHeadOf, IsStarted, IsUnder};
-ghost use Rattle.fragment_open.specs.Settled.{AreHeld, FetchEnds, IsQuietIfHeld, Opens, Settled, goes_to_chunk, is_start, root_by, since, want_by};
+ghost use Rattle.fragment_open.specs.Settled.{AddsPlain, AreHeld, FetchEnds, IsQuietIfHeld, Opens, OpensNone, Settled, goes_to_chunk, is_start, root_by, since, want_by};
 ghost use Rattle.fragment_open.specs.SettledProps.{AreHeld-prop, IsQuietIfHeld-prop, Settled-prop};
 
 use crate::head::{Head, begin};
@@ -91,8 +92,8 @@ impl<'a, S: Store> Opener<'a, S> {
         }
     }
 
-    /// Starts on a store and makes its opener, as [`begin`] and [`over`](Opener::over) do. After a refusal a caller knows nothing
-    /// of the store: where that matters, call these two.
+    /// Starts on a store and makes its opener, as [`begin`] and [`over`](Opener::over) do. What a refusal says of the store,
+    /// its causes and its counts, is said by `begin`: where that matters, call these two.
     pub fn start(
         store: &'a mut S,
         root: [u8; 32],
@@ -107,6 +108,7 @@ impl<'a, S: Store> Opener<'a, S> {
             IsUnder root key opener.head.header opener.head.top opener.head.key) }
         ensures fault { IfOk result (λ opener. opener.fault ≡ None) }
         ensures constant { IfOk result (λ opener. S.holds opener.store.now ≡ S.holds store.old) }
+        ensures quiet { IfOk result (λ opener. S.faults opener.store.now ≡ S.faults store.old) }
         ensures held { (d : Doc) → HoldsDocument (S.holds store.old) d key
             → file_root d key ≡ root → MatchResult result
             (λ opener. IsHeadOf d key opener.head.header opener.head.top)
@@ -132,6 +134,12 @@ impl<'a, S: Store> Opener<'a, S> {
             FetchEnds result index self.old.head.header self.old.head.top self.old.head.key into.new (since all)) }
         ensures opens { self.old.fault ≡ None
             → Opens result index (S.served self.old.store.now) (S.served self.new.store.now) }
+        ensures checked { self.old.fault ≡ None → IfSome (S.served self.new.store.now) (λ all.
+            AreOpeningsChecked (is_bad_fragment result) (since all)) }
+        ensures plain { self.old.fault ≡ None → AddsPlain result self.old.head.key into.new
+            (S.served self.old.store.now) (S.served self.new.store.now) }
+        ensures unopened { self.old.fault ≡ None → IsErrOf result ReadFault.StoreFault
+            → OpensNone (S.served self.old.store.now) (S.served self.new.store.now) }
         ensures grown { Told (S.served self.old.store.now) (S.served self.new.store.now) (λ more.
             list_any is_start more ≡ false) }
         ensures held { (d : Doc) → HoldsDocument (S.holds self.old.store.now) d self.old.head.key
@@ -171,6 +179,12 @@ impl<'a, S: Store> Opener<'a, S> {
             FetchEnds result index self.old.head.header self.old.head.top self.old.head.key into.new (since all)) }
         ensures opens { Opens result index (S.served self.old.store.now)
             (S.served self.new.store.now) }
+        ensures checked { IfSome (S.served self.new.store.now) (λ all.
+            AreOpeningsChecked (is_bad_fragment result) (since all)) }
+        ensures plain { AddsPlain result self.old.head.key into.new
+            (S.served self.old.store.now) (S.served self.new.store.now) }
+        ensures unopened { IsErrOf result ReadFault.StoreFault
+            → OpensNone (S.served self.old.store.now) (S.served self.new.store.now) }
         ensures grown { Told (S.served self.old.store.now) (S.served self.new.store.now) (λ more.
             list_any is_start more ≡ false) }
         ensures held { (d : Doc) → HoldsDocument (S.holds self.old.store.now) d self.old.head.key

@@ -15,12 +15,14 @@ use Rattle.fragment_open.specs.Told.{Told}
 use Rattle.fragment_open.specs.Climbing.{IsNotOpened, IsOpened}
 use Rattle.fragment_open.specs.Held.{HoldsFile}
 use Rattle.fragment_open.specs.Starting.{HoldsDocument}
-use Rattle.fragment_open.specs.Settled.{FetchEnds, Opens, Settled, goes_to_chunk, is_start, since, want_by}
+use Rattle.fragment_open.specs.Settled.{AddsPlain, FetchEnds, Opens, Settled, goes_to_chunk, is_start, since, want_by}
+use Rattle.fragment_open.specs.Checked.{AreOpeningsChecked}
 use Rattle.fragment_open.proofs.ClashLemmas.{bytes_differ, bytes_same}
 use Rattle.fragment_open.proofs.HeldLemmas.{still_holds}
 use Rattle.fragment_open.proofs.StartLemmas.{holds_file}
 use Rattle.fragment_open.proofs.FetchLemmas.{bytes_held, kept_held, want_held}
 use Rattle.fragment_open.proofs.TellLemmas.{grown-ended, grown-opened, opens-bad, opens-ended, opens-fetched, settled-fetched, told-bad, told-ended, told-fetched}
+use Rattle.fragment_open.proofs.CheckedLemmas.{checked-bad, checked-ended, checked-fetched, none-ended, plain-fetched}
 use Rattle.fragment_open.proofs.opener.Opener.open_next.Goals as goal
 
 level_is : (head : Head) → head.top_level ≡ top_level (fragment_count head.header)
@@ -69,6 +71,22 @@ returns-in-Err-clause-opens g c =
     let aim = c.aim_of-aim.result in
     opens-ended head.header head.top self.kept (g.S.Store.served c.args.self.now.store.now) (g.S.Store.served c.open_to.new.store) (quiet_is (g.S.Store.served c.args.self.now.store.now) head self.kept self.fault c.requires.quiet self.settled) i c.requires.within aim.goal (aim_is head i aim.goal self.kept c.aim_of-aim.ensures.goal) c.in-Err.fault (told_ended head i aim.goal c.in-Err.fault (g.S.Store.served c.args.self.now.store.now) (g.S.Store.served c.open_to.new.store) c.in-Err.ensures.told)
 
+pub returns-in-Err-clause-checked : goal.returns-in-Err-clause-checked
+returns-in-Err-clause-checked g c =
+    let self = c.args.self.now in
+    let head = self.head in
+    let i : ℕ = c.args.index in
+    let aim = c.aim_of-aim.result in
+    checked-ended head.header head.top self.kept (g.S.Store.served c.args.self.now.store.now) (g.S.Store.served c.open_to.new.store) (quiet_is (g.S.Store.served c.args.self.now.store.now) head self.kept self.fault c.requires.quiet self.settled) i c.requires.within aim.goal (aim_is head i aim.goal self.kept c.aim_of-aim.ensures.goal) c.in-Err.fault (told_ended head i aim.goal c.in-Err.fault (g.S.Store.served c.args.self.now.store.now) (g.S.Store.served c.open_to.new.store) c.in-Err.ensures.told)
+
+pub returns-in-Err-clause-unopened : goal.returns-in-Err-clause-unopened
+returns-in-Err-clause-unopened g c = λ failed.
+    let self = c.args.self.now in
+    let head = self.head in
+    let i : ℕ = c.args.index in
+    let aim = c.aim_of-aim.result in
+    none-ended head.header head.top self.kept (g.S.Store.served c.args.self.now.store.now) (g.S.Store.served c.open_to.new.store) (quiet_is (g.S.Store.served c.args.self.now.store.now) head self.kept self.fault c.requires.quiet self.settled) i c.requires.within aim.goal (aim_is head i aim.goal self.kept c.aim_of-aim.ensures.goal) c.in-Err.fault (told_ended head i aim.goal c.in-Err.fault (g.S.Store.served c.args.self.now.store.now) (g.S.Store.served c.open_to.new.store) c.in-Err.ensures.told) failed
+
 pub returns-in-Err-clause-held : goal.returns-in-Err-clause-held
 returns-in-Err-clause-held g c = λ d is has.
     let self = c.args.self.now in
@@ -102,6 +120,15 @@ returns-then-ne-clause-opens g c =
     let aim = c.aim_of-aim.result in
     let o = c.in-Ok.opened in
     opens-bad head.header head.top self.kept (g.S.Store.served c.args.self.now.store.now) (g.S.Store.served c.open_to.new.store) (quiet_is (g.S.Store.served c.args.self.now.store.now) head self.kept self.fault c.requires.quiet self.settled) i c.requires.within aim.goal (aim_is head i aim.goal self.kept c.aim_of-aim.ensures.goal) o.cipher o.chunk o.digest aim.want (told_opened head i aim.goal o.cipher o.chunk o.digest (g.S.Store.served c.args.self.now.store.now) (g.S.Store.served c.open_to.new.store) c.in-Ok.ensures.told) (want_is head i self.kept aim.want c.aim_of-aim.ensures.want) (BadFragment i aim.want o.digest)
+
+pub returns-then-ne-clause-checked : goal.returns-then-ne-clause-checked
+returns-then-ne-clause-checked g c =
+    let self = c.args.self.now in
+    let head = self.head in
+    let i : ℕ = c.args.index in
+    let aim = c.aim_of-aim.result in
+    let o = c.in-Ok.opened in
+    checked-bad head.header head.top self.kept (g.S.Store.served c.args.self.now.store.now) (g.S.Store.served c.open_to.new.store) (quiet_is (g.S.Store.served c.args.self.now.store.now) head self.kept self.fault c.requires.quiet self.settled) i c.requires.within aim.goal (aim_is head i aim.goal self.kept c.aim_of-aim.ensures.goal) o.cipher o.chunk o.digest aim.want (told_opened head i aim.goal o.cipher o.chunk o.digest (g.S.Store.served c.args.self.now.store.now) (g.S.Store.served c.open_to.new.store) c.in-Ok.ensures.told) (want_is head i self.kept aim.want c.aim_of-aim.ensures.want)
 
 pub returns-then-ne-clause-held : goal.returns-then-ne-clause-held
 returns-then-ne-clause-held g c = λ d is has.
@@ -168,6 +195,28 @@ returns-clause-opens g c =
     let o = c.in-Ok.opened in
     subst (λ store. Opens {T = Unit {0}} (Ok tt) i (g.S.Store.served c.args.self.now.store.now) (g.S.Store.served store)) (sym c.keep.ensures.same_now)
     (opens-fetched head.header head.top self.kept (g.S.Store.served c.args.self.now.store.now) (g.S.Store.served c.open_to.new.store) (quiet_is (g.S.Store.served c.args.self.now.store.now) head self.kept self.fault c.requires.quiet self.settled) i c.requires.within aim.goal (aim_is head i aim.goal self.kept c.aim_of-aim.ensures.goal) o.cipher o.chunk o.digest aim.want (told_opened head i aim.goal o.cipher o.chunk o.digest (g.S.Store.served c.args.self.now.store.now) (g.S.Store.served c.open_to.new.store) c.in-Ok.ensures.told) (want_is head i self.kept aim.want c.aim_of-aim.ensures.want) tt)
+
+pub returns-clause-checked : goal.returns-clause-checked
+returns-clause-checked g c =
+    let self = c.args.self.now in
+    let head = self.head in
+    let i : ℕ = c.args.index in
+    let aim = c.aim_of-aim.result in
+    let o = c.in-Ok.opened in
+    subst (λ store. IfSome (g.S.Store.served store) (λ all. AreOpeningsChecked false (since all))) (sym c.keep.ensures.same_now)
+    (checked-fetched head.header head.top self.kept (g.S.Store.served c.args.self.now.store.now) (g.S.Store.served c.open_to.new.store) (quiet_is (g.S.Store.served c.args.self.now.store.now) head self.kept self.fault c.requires.quiet self.settled) i c.requires.within aim.goal (aim_is head i aim.goal self.kept c.aim_of-aim.ensures.goal) o.cipher o.chunk o.digest aim.want (told_opened head i aim.goal o.cipher o.chunk o.digest (g.S.Store.served c.args.self.now.store.now) (g.S.Store.served c.open_to.new.store) c.in-Ok.ensures.told) (want_is head i self.kept aim.want c.aim_of-aim.ensures.want) (bytes_same o.digest aim.want c.if-ne.ensures))
+
+pub returns-clause-plain : goal.returns-clause-plain
+returns-clause-plain g c =
+    let self = c.args.self.now in
+    let head = self.head in
+    let i : ℕ = c.args.index in
+    let aim = c.aim_of-aim.result in
+    let o = c.in-Ok.opened in
+    subst (λ store. AddsPlain {T = Unit {0}} (Ok tt) head.key c.unlock_fragment.new.bytes (g.S.Store.served c.args.self.now.store.now) (g.S.Store.served store)) (sym c.keep.ensures.same_now)
+    (plain-fetched head.header head.top self.kept (g.S.Store.served c.args.self.now.store.now) (g.S.Store.served c.open_to.new.store) (quiet_is (g.S.Store.served c.args.self.now.store.now) head self.kept self.fault c.requires.quiet self.settled) i c.requires.within aim.goal (aim_is head i aim.goal self.kept c.aim_of-aim.ensures.goal) o.cipher o.chunk o.digest aim.want (told_opened head i aim.goal o.cipher o.chunk o.digest (g.S.Store.served c.args.self.now.store.now) (g.S.Store.served c.open_to.new.store) c.in-Ok.ensures.told) (want_is head i self.kept aim.want c.aim_of-aim.ensures.want) tt head.key c.unlock_fragment.new.bytes (bytes_same o.digest aim.want c.if-ne.ensures)
+    (c.unlock_fragment.ensures.unlocked
+    ∙ (λ j. unlocked_fragment (c.keep.ensures.same_head j).key i (c.copy_from_slice.ensures.after j))))
 
 pub returns-clause-held : goal.returns-clause-held
 returns-clause-held g c = λ d is has.
