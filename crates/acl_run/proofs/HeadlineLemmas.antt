@@ -83,7 +83,7 @@ due_anyway c kl ql a b Q P all told =
     (λ secret sealed. Told-weaker a b Q (λ reads. OfEachDueText c secret sealed reads P) told
     (λ reads q. of_opened c secret sealed _ (λ k l wanted d document has none. all (wanted_text d l.rules wanted))))
 
-store_cause_of_none : (b : Bool) (P : Type 0) → b ≡ false → OnTrue b P
+pub store_cause_of_none : (b : Bool) (P : Type 0) → b ≡ false → OnTrue b P
 store_cause_of_none true P h = absurd (true≢false h)
 store_cause_of_none false P h = tt
 
@@ -97,7 +97,7 @@ cause_anyway c kl ql a b Q o other told =
     (λ reads q. of_opened c secret sealed _ (λ k l wanted. store_cause_of_none (is_store_end (end_of o)) _ other)))
 
 -- no reads show nothing
-nothing_shown : (root key : List ℕ) (fault : ReadFault) → IsShown root key fault [] → ⊥
+pub nothing_shown : (root key : List ℕ) (fault : ReadFault) → IsShown root key fault [] → ⊥
 unfolding openings
 nothing_shown root key BadHeader shown = true≢false (sym shown.0)
 nothing_shown root key (WrongRoot want made) shown = no_some _ shown.0

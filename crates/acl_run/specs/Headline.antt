@@ -1,15 +1,23 @@
 -- What `view` and `explain` promise of a store that nobody trusts. This project's own.
-use Rattle.std.specs.Prelude.{◌≡◌, ℕ, Bool, true, false, Option, Result, Ok, Err, List}
+use Rattle.std.specs.Prelude.{◌≡◌, ◌≢◌, ℕ, Bool, true, false, is_some, Option, Some, None, option_map, option_and_then, Result, Ok, Err, List, [], ◌∷◌, map}
 use Rattle.std.specs.Bool.{OnTrue}
+use Rattle.std.specs.List.{list_all, slice_get}
+use Rattle.sha2.specs.Sha256.{sha256}
 use Rattle.acl_model.specs.Document.{is_document}
 use Rattle.acl_model.specs.declared.document.Doc.{Doc}
 use Rattle.acl_outside.specs.Outside.{StoreRead}
 use Rattle.acl_outside.specs.declared.read_fault.ReadFault.{ReadFault}
+use Rattle.acl_outside.specs.declared.read_fault.ReadFault.TheVariants.{BadFragment, BadHeader, BadIndex, StoreFault, StoreShort, WrongKey, WrongRoot}
 use Rattle.acl_outcome.specs.declared.outcome.Outcome.{Outcome}
 use Rattle.acl_outcome.specs.Ends.{Object, store, is_same, End, done, no_memory, usage, fault, stopped, refused, end_of}
-use Rattle.file_reading.specs.FileEnds.{IsFileCause, IsShown}
+use Rattle.file_reading.specs.FileEnds.{IsFileCause, IsShown, first_short}
+use Rattle.fragment_open.specs.Asks.{ask_of, header_ask}
 use Rattle.fragment_open.specs.Clash.{reads_clash}
+use Rattle.fragment_open.specs.Hashed.{folded, wanted}
+use Rattle.fragment_open.specs.Openings.{indexes}
+use Rattle.fragment_open.specs.Served.{header_served, root_served, whole}
 use Rattle.fragment_open.specs.Starting.{HoldsDocument}
+use Rattle.fragment_open.specs.Told.{IsCut, is_whole}
 use Rattle.licence.specs.declared.keys.Keys.{Keys}
 use Rattle.licence.specs.declared.terms.Licence.{Licence}
 use Rattle.merkle_chunks.specs.File.{HasRoot, file_root}
@@ -87,3 +95,46 @@ HasStoreCause outcome root key reads = OnTrue (is_store_end (end_of outcome))
 -- Where the reads show why the store is to be refused, the run ends with that refusal.
 abbrev pub IsRefusedAsShown : Outcome → List ℕ → List ℕ → List StoreRead → Type 0
 IsRefusedAsShown outcome root key reads = (fault : ReadFault) → IsShown root key fault reads → outcome ≡ outcome_of_read_fault fault
+
+-- ---- why the store was refused, by what it served alone, whatever root and key the run had
+
+-- What the reads alone say of a refusal: what came as a header is none; the root string has another digest than the wanted one,
+-- or the header another check than the key; a read came short; all came whole and the store failed; or the newest opening, of
+-- this fragment, folds to another digest than the wanted one.
+abbrev pub IsServedCause : ReadFault → List StoreRead → Type 0
+IsServedCause BadHeader reads =
+    (map ask_of reads ≡ header_ask ∷ []) × (header_served reads ≡ None) × (list_all is_whole reads ≡ true)
+IsServedCause (WrongRoot want made) reads =
+    (option_map sha256 (root_served reads) ≡ Some made) × (want ≢ made) × (list_all is_whole reads ≡ true)
+IsServedCause (WrongKey want made) reads =
+    (option_map (λ h. h.check) (header_served reads) ≡ Some want) × (want ≢ made) × (list_all is_whole reads ≡ true)
+IsServedCause (StoreShort to) reads = IsCut to reads
+IsServedCause StoreFault reads = list_all is_whole reads ≡ true
+IsServedCause (BadFragment index want made) reads =
+    (list_all is_whole reads ≡ true) × ((before : List ℕ) × (indexes reads ≡ index ∷ before))
+    × (folded sha256 reads ≡ Some made) × (wanted sha256 reads ≡ Some want) × (want ≢ made)
+IsServedCause BadIndex reads = list_all is_whole reads ≡ true
+
+-- An outcome that speaks of the store has what the reads alone say of its cause.
+abbrev pub HasServedCause : Outcome → List StoreRead → Type 0
+HasServedCause outcome reads = OnTrue (is_store_end (end_of outcome))
+    ((fault : ReadFault) × (outcome ≡ outcome_of_read_fault fault) × IsServedCause fault reads)
+
+-- What the reads alone show, whatever the root and the key: what was served as a header is none; a read came short; or the
+-- newest opening folds to another digest than the wanted one. A wrong root and a wrong key show by a root and a key; a store's
+-- own failure and a wrong index show by no read alone.
+abbrev pub IsServedFault : ReadFault → List StoreRead → Type 0
+IsServedFault BadHeader reads =
+    (is_some (option_and_then (whole 64) (slice_get reads 0)) ≡ true) × (header_served reads ≡ None)
+IsServedFault (WrongRoot want made) reads = ⊥
+IsServedFault (WrongKey want made) reads = ⊥
+IsServedFault (StoreShort to) reads = first_short reads ≡ Some to
+IsServedFault StoreFault reads = ⊥
+IsServedFault (BadFragment index want made) reads =
+    ((before : List ℕ) × (indexes reads ≡ index ∷ before))
+    × (folded sha256 reads ≡ Some made) × (wanted sha256 reads ≡ Some want) × (want ≢ made)
+IsServedFault BadIndex reads = ⊥
+
+-- Where the reads alone show why the store is to be refused, the run ends with that refusal.
+abbrev pub IsRefusedAsServed : Outcome → List StoreRead → Type 0
+IsRefusedAsServed outcome reads = (fault : ReadFault) → IsServedFault fault reads → outcome ≡ outcome_of_read_fault fault

@@ -6,6 +6,7 @@ pub mod Readers
 pub mod Reading
 pub mod Opening
 pub mod Headline
+pub mod Lengths
 pub mod Seal
 pub mod Steps
 pub mod Texts

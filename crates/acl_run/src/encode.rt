@@ -10,6 +10,7 @@ ghost use Rattle.esis_lines.specs.Answers.{TakesUpTo};
 ghost use Rattle.acl_outcome.specs.Ends.{Object, end_of, is_fault_of};
 ghost use Rattle.acl_words.specs.Command.{Command};
 ghost use Rattle.acl_run.specs.Encode.{root_line};
+ghost use Rattle.acl_run.specs.Lengths.{WhereTooLong, WhereWithin, is_too_long};
 ghost use Rattle.acl_run.specs.Objects.{LeavesSource, LeavesSink};
 ghost use Rattle.acl_run.specs.Steps.{Follows};
 ghost use Rattle.acl_run.specs.Texts.{WritesText, WritesNote, WhereWhole, WhereDone, due_out, due_note};
@@ -83,6 +84,11 @@ pub fn encode<K: Source, Q: Source, W: Sink, N: Sink>(
         (TakesUpTo (keys_limit Command.encode + 1) (K.left keys.old) (K.left keys.new)) }
     ensures input_read { OnTrue (is_behind_input Command.encode (end_of result))
         (TakesUpTo (input_limit Command.encode + 1) (Q.left input.old) (Q.left input.new)) }
+    ensures long_keys { WhereTooLong (keys_limit Command.encode) (K.left keys.old)
+        ((input.new ≡ input.old) × (out.new ≡ out.old) × (note.new ≡ note.old)) }
+    ensures long_input { WhereWithin (keys_limit Command.encode) (K.left keys.old)
+        (OnTrue (is_too_long (end_of result)) (IsAtEnd (K.left keys.new)
+        × TakesUpTo (input_limit Command.encode + 1) (Q.left input.old) (Q.left input.new))) }
     ensures unread { OnTrue (precedes_input Command.encode (end_of result))
         (input.new ≡ input.old) }
     ensures unwritten { OnTrue (precedes_output Command.encode (end_of result))

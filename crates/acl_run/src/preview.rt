@@ -14,6 +14,7 @@ ghost use Rattle.licence.specs.BodyText.{most_rules};
 ghost use Rattle.tree_meaning.specs.Shows.{WritesView};
 ghost use Rattle.acl_outcome.specs.Ends.{Object, end_of, is_fault_of};
 ghost use Rattle.acl_words.specs.Command.{Command};
+ghost use Rattle.acl_run.specs.Lengths.{WhereTooLong, WhereWithin, is_too_long};
 ghost use Rattle.acl_run.specs.Objects.{LeavesSource, LeavesSink};
 ghost use Rattle.acl_run.specs.Preview.{wanted_by, wanted_text};
 ghost use Rattle.acl_run.specs.Reading.{AnswersAlone};
@@ -208,6 +209,13 @@ pub fn preview<K: Source, Q: Source, W: Sink>(
     ensures input_read { let c = Command.preview (meant_shown shown.entry) in
         OnTrue (is_behind_input c (end_of result))
         (TakesUpTo (input_limit c + 1) (Q.left input.old) (Q.left input.new)) }
+    ensures long_keys { let c = Command.preview (meant_shown shown.entry) in
+        WhereTooLong (keys_limit c) (K.left keys.old)
+        ((input.new ≡ input.old) × (out.new ≡ out.old)) }
+    ensures long_input { let c = Command.preview (meant_shown shown.entry) in
+        WhereWithin (keys_limit c) (K.left keys.old)
+        (OnTrue (is_too_long (end_of result)) (IsAtEnd (K.left keys.new)
+        × TakesUpTo (input_limit c + 1) (Q.left input.old) (Q.left input.new))) }
     ensures unread { OnTrue
         (precedes_input (Command.preview (meant_shown shown.entry)) (end_of result))
         (input.new ≡ input.old) }

@@ -8,6 +8,7 @@ ghost use Rattle.acl_outside.specs.Outside.{AreAllSettled};
 ghost use Rattle.esis_lines.specs.Answers.{TakesUpTo};
 ghost use Rattle.acl_outcome.specs.Ends.{Object, end_of, is_fault_of};
 ghost use Rattle.acl_words.specs.Command.{Command};
+ghost use Rattle.acl_run.specs.Lengths.{WhereTooLong, WhereWithin, is_too_long};
 ghost use Rattle.acl_run.specs.Objects.{LeavesSource, LeavesSink};
 ghost use Rattle.acl_run.specs.Steps.{Follows};
 ghost use Rattle.acl_run.specs.Texts.{WritesText, WhereWhole, due_out};
@@ -43,6 +44,11 @@ pub fn seal<K: Source, Q: Source, W: Sink>(
         (TakesUpTo (keys_limit Command.seal + 1) (K.left keys.old) (K.left keys.new)) }
     ensures input_read { OnTrue (is_behind_input Command.seal (end_of result))
         (TakesUpTo (input_limit Command.seal + 1) (Q.left input.old) (Q.left input.new)) }
+    ensures long_keys { WhereTooLong (keys_limit Command.seal) (K.left keys.old)
+        ((input.new ≡ input.old) × (out.new ≡ out.old)) }
+    ensures long_input { WhereWithin (keys_limit Command.seal) (K.left keys.old)
+        (OnTrue (is_too_long (end_of result)) (IsAtEnd (K.left keys.new)
+        × TakesUpTo (input_limit Command.seal + 1) (Q.left input.old) (Q.left input.new))) }
     ensures unread { OnTrue (precedes_input Command.seal (end_of result))
         (input.new ≡ input.old) }
     ensures unwritten { OnTrue (precedes_output Command.seal (end_of result))

@@ -9,8 +9,9 @@ ghost use Rattle.esis_lines.specs.Answers.{TakesUpTo};
 ghost use Rattle.fragment_open.specs.Served.{IsRegular};
 ghost use Rattle.fragment_open.specs.Told.{Told};
 ghost use Rattle.acl_outcome.specs.Ends.{Object, end_of, is_fault_of};
-ghost use Rattle.acl_run.specs.Headline.{HasStoreCause, IsOfNoBytes, IsRefusedAsShown};
+ghost use Rattle.acl_run.specs.Headline.{HasServedCause, HasStoreCause, IsOfNoBytes, IsRefusedAsServed, IsRefusedAsShown};
 ghost use Rattle.acl_run.specs.Headline.{OfEachDueText, OfHeldText, OfOpened};
+ghost use Rattle.acl_run.specs.Lengths.{WhereTooLong, WhereWithin, is_too_long};
 ghost use Rattle.acl_run.specs.Objects.{LeavesSource, LeavesSink, LeavesStore};
 ghost use Rattle.acl_run.specs.Texts.{WritesText, WritesNote, WhereWhole, WhereDone};
 ghost use Rattle.acl_run.specs.Texts.{due_out, due_note};
@@ -115,8 +116,14 @@ pub fn run<K: Source, Q: Source, S: Store, W: Sink, N: Sink>(
         Told (S.served store.old) (S.served store.new) (λ reads.
         OfOpened c secret sealed (λ keys licence wanted.
         IsRefusedAsShown result licence.root keys.document reads))))) }
+    // The same by what the store served alone, whatever the keys and the input tell.
+    ensures served_cause { Told (S.served store.old) (S.served store.new)
+        (HasServedCause result) }
+    ensures refused_alone { Told (S.served store.old) (S.served store.new)
+        (IsRefusedAsServed result) }
 
-    // What is read: each source to its end, or one byte past its limit, and the input only behind good keys.
+    // What is read: each source to its end, or one byte past its limit, and the input only behind good keys. Keys that
+    // are too long leave all else untouched; an input that is too long was read past its limit behind all of the keys.
     ensures keys_read { IfSome (words_of (map string_bytes words.now)) (λ c.
         OnTrue (is_behind_keys c (end_of result))
         (TakesUpTo (keys_limit c + 1) (K.left keys.old) (K.left keys.new))) }
@@ -127,6 +134,14 @@ pub fn run<K: Source, Q: Source, S: Store, W: Sink, N: Sink>(
         OnTrue (uses c Object.keys) (WhereWhole (end_of result) (IsAtEnd (K.left keys.new)))) }
     ensures input_end { IfSome (words_of (map string_bytes words.now)) (λ c.
         OnTrue (uses c Object.input) (WhereWhole (end_of result) (IsAtEnd (Q.left input.new)))) }
+    ensures long_keys { IfSome (words_of (map string_bytes words.now)) (λ c.
+        OnTrue (uses c Object.keys) (WhereTooLong (keys_limit c) (K.left keys.old)
+        ((input.new ≡ input.old) × (store.new ≡ store.old) × (out.new ≡ out.old)
+        × (note.new ≡ note.old)))) }
+    ensures long_input { IfSome (words_of (map string_bytes words.now)) (λ c.
+        WhereWithin (keys_limit c) (K.left keys.old)
+        (OnTrue (is_too_long (end_of result)) (IsAtEnd (K.left keys.new)
+        × TakesUpTo (input_limit c + 1) (Q.left input.old) (Q.left input.new)))) }
     ensures unread { IfSome (words_of (map string_bytes words.now))
         (λ c. OnTrue (precedes_input c (end_of result)) (input.new ≡ input.old)) }
     ensures unopened { IfSome (words_of (map string_bytes words.now))

@@ -10,7 +10,9 @@ ghost use Rattle.fragment_open.specs.Served.{IsRegular};
 ghost use Rattle.fragment_open.specs.Told.{Told};
 ghost use Rattle.acl_outcome.specs.Ends.{Object, end_of, is_fault_of};
 ghost use Rattle.acl_words.specs.Command.{Command};
-ghost use Rattle.acl_run.specs.Headline.{HasStoreCause, IsOfNoBytes, IsRefusedAsShown, OfEachDueText, OfHeldText, OfOpened};
+ghost use Rattle.acl_run.specs.Headline.{HasServedCause, HasStoreCause, IsOfNoBytes, IsRefusedAsServed, IsRefusedAsShown};
+ghost use Rattle.acl_run.specs.Headline.{OfEachDueText, OfHeldText, OfOpened};
+ghost use Rattle.acl_run.specs.Lengths.{WhereTooLong, WhereWithin, is_too_long};
 ghost use Rattle.acl_run.specs.Objects.{LeavesSource, LeavesSink, LeavesStore};
 ghost use Rattle.acl_words.specs.Request.{meant_shown};
 ghost use Rattle.acl_run.specs.Steps.{Follows};
@@ -63,6 +65,11 @@ pub fn view<K: Source, Q: Source, S: Store, W: Sink>(
         Told (S.served store.old) (S.served store.new) (λ reads.
         OfOpened (Command.view (meant_shown shown.entry)) secret sealed (λ keys licence wanted.
         IsRefusedAsShown result licence.root keys.document reads)))) }
+    // The same by what the store served alone, whatever the keys and the input tell.
+    ensures served_cause { Told (S.served store.old) (S.served store.new)
+        (HasServedCause result) }
+    ensures refused_alone { Told (S.served store.old) (S.served store.new)
+        (IsRefusedAsServed result) }
 
     ensures settled { WhereWhole (end_of result)
         (AreAllSettled (W.settled out.new) (W.written out.new)) }
@@ -74,6 +81,13 @@ pub fn view<K: Source, Q: Source, S: Store, W: Sink>(
     ensures input_read { let c = Command.view (meant_shown shown.entry) in
         OnTrue (is_behind_input c (end_of result))
         (TakesUpTo (input_limit c + 1) (Q.left input.old) (Q.left input.new)) }
+    ensures long_keys { let c = Command.view (meant_shown shown.entry) in
+        WhereTooLong (keys_limit c) (K.left keys.old)
+        ((input.new ≡ input.old) × (store.new ≡ store.old) × (out.new ≡ out.old)) }
+    ensures long_input { let c = Command.view (meant_shown shown.entry) in
+        WhereWithin (keys_limit c) (K.left keys.old)
+        (OnTrue (is_too_long (end_of result)) (IsAtEnd (K.left keys.new)
+        × TakesUpTo (input_limit c + 1) (Q.left input.old) (Q.left input.new))) }
     ensures unread { OnTrue
         (precedes_input (Command.view (meant_shown shown.entry)) (end_of result))
         (input.new ≡ input.old) }

@@ -1,11 +1,13 @@
-use Rattle.std.proofs.Common.{◌≡◌, ℕ, Ok, Err, List, subst}
+use Rattle.std.proofs.Common.{◌≡◌, ℕ, Ok, Err, List, refl, subst}
 use Rattle.acl_outcome.specs.Ends.{end_of}
 use Rattle.acl_model.specs.declared.rule.Rule.{Rule}
 use Rattle.acl_run.specs.Preview.{wanted_by, wanted_text}
+use Rattle.acl_run.specs.Readers.{most_key_bytes}
 use Rattle.acl_words.specs.Request.{meant_shown}
 use Rattle.acl_run.specs.Steps.{OrNoMemory}
 use Rattle.acl_run.specs.Texts.{WritesText}
 use Rattle.acl_run.proofs.Facts.{whatever_told}
+use Rattle.acl_run.proofs.Lengths.{ends_at_input, long_anyway, other_end, query-not_long, rules_end, rules_not_long, writing-not_long}
 use Rattle.acl_run.proofs.PreviewSteps.{ends_at_rules, ends_at_wanted, ends_at_document, ends_at_showing, due_is_made, document-text}
 use Rattle.acl_run.proofs.preview.preview.Goals as goal
 
@@ -49,3 +51,39 @@ returns-clause-text g c =
     (subst (λ (user : List ℕ). wanted_by user (meant_shown c.args.shown) ≡ Ok c.in-Ok-read_wanted.wanted) c.as_slice.ensures c.in-Ok-read_wanted.ensures.answer)
     c.in-Ok-read_document.ensures.answer
     (subst (λ (rules : List Rule). WritesText (end_of c.show.result) (g.W.Sink.written c.args.out.now) (g.W.Sink.written c.show.new.out) (wanted_text c.in-Ok-read_document.doc rules c.in-Ok-read_wanted.wanted)) c.as_slice-2.ensures c.show.ensures.text)
+
+-- ---- lengths
+
+pub returns-in-Err-clause-long_keys : goal.returns-in-Err-clause-long_keys
+returns-in-Err-clause-long_keys g c =
+    long_anyway most_key_bytes (g.K.Source.left c.args.keys.now) _ (refl, refl)
+
+pub returns-in-Err-clause-long_input : goal.returns-in-Err-clause-long_input
+returns-in-Err-clause-long_input g c =
+    rules_end (g.K.Source.left c.args.keys.now) c.in-Err.outcome _ c.in-Err.ensures.answer
+
+pub returns-in-Err-read_wanted-clause-long_keys : goal.returns-in-Err-read_wanted-clause-long_keys
+returns-in-Err-read_wanted-clause-long_keys g c =
+    rules_not_long (g.K.Source.left c.args.keys.now) c.in-Ok.licence _ c.in-Ok.ensures.answer
+
+pub returns-in-Err-read_wanted-clause-long_input : goal.returns-in-Err-read_wanted-clause-long_input
+returns-in-Err-read_wanted-clause-long_input g c =
+    other_end most_key_bytes (g.K.Source.left c.args.keys.now) (end_of c.in-Err-read_wanted.outcome) _
+    (query-not_long (meant_shown c.args.shown) (end_of c.in-Err-read_wanted.outcome) c.in-Err-read_wanted.ensures.ends)
+
+pub returns-in-Err-read_document-clause-long_keys : goal.returns-in-Err-read_document-clause-long_keys
+returns-in-Err-read_document-clause-long_keys g c =
+    rules_not_long (g.K.Source.left c.args.keys.now) c.in-Ok.licence _ c.in-Ok.ensures.answer
+
+pub returns-in-Err-read_document-clause-long_input : goal.returns-in-Err-read_document-clause-long_input
+returns-in-Err-read_document-clause-long_input g c =
+    ends_at_input most_key_bytes (g.K.Source.left c.args.keys.now) (end_of c.in-Err-read_document.outcome) _ _
+    c.in-Ok.ensures.to_the_end c.in-Err-read_document.ensures.read
+
+pub returns-clause-long_keys : goal.returns-clause-long_keys
+returns-clause-long_keys g c =
+    rules_not_long (g.K.Source.left c.args.keys.now) c.in-Ok.licence _ c.in-Ok.ensures.answer
+
+pub returns-clause-long_input : goal.returns-clause-long_input
+returns-clause-long_input g c =
+    other_end most_key_bytes (g.K.Source.left c.args.keys.now) (end_of c.show.result) _ (writing-not_long (end_of c.show.result) c.show.ensures.ends)

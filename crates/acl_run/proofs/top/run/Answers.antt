@@ -1,9 +1,12 @@
-use Rattle.std.proofs.Common.{rules, map, string_bytes}
+use Rattle.std.proofs.Common.{rules, map, string_bytes, refl}
 use Rattle.acl_outcome.specs.Ends.{end_of}
 use Rattle.acl_words.specs.Command.{Command}
 use Rattle.acl_words.specs.Request.{meant_shown}
 use Rattle.acl_words.specs.Words.{words_of}
 use Rattle.acl_run.proofs.Facts.{whatever_told}
+use Rattle.acl_run.specs.Readers.{most_key_bytes}
+use Rattle.acl_run.proofs.Lengths.{long_so, other_end, sample-not_long}
+use Rattle.acl_run.proofs.Served.{encode-not_of_store, preview-not_of_store, sample-not_of_store, seal-not_of_store, served_unasked, unrefused_unasked}
 use Rattle.acl_run.proofs.TopSteps.{usage_of_taken, where_taken, where_any, where_unread, where_untold, no_note}
 use Rattle.acl_run.proofs.top.run.Goals as goal
 
@@ -152,3 +155,82 @@ returns-in-Some-View-clause-store_cause g c =
 pub returns-in-Some-View-clause-refused : goal.returns-in-Some-View-clause-refused
 returns-in-Some-View-clause-refused g c =
     where_taken (Command.view (meant_shown c.in-Some-View.shown)) (words_of (map string_bytes c.args.words.now)) _ (search rules) c.view.ensures.refused
+
+-- ---- lengths, and what the store served alone
+
+pub returns-in-Some-Preview-clause-long_keys : goal.returns-in-Some-Preview-clause-long_keys
+returns-in-Some-Preview-clause-long_keys g c =
+    where_taken (Command.preview (meant_shown c.in-Some-Preview.shown)) (words_of (map string_bytes c.args.words.now)) _ (search rules)
+    (long_so most_key_bytes (g.K.Source.left c.args.keys.now) _ _ (λ p. (p.0, refl, p.1, refl)) c.preview.ensures.long_keys)
+
+pub returns-in-Some-Preview-clause-long_input : goal.returns-in-Some-Preview-clause-long_input
+returns-in-Some-Preview-clause-long_input g c =
+    where_taken (Command.preview (meant_shown c.in-Some-Preview.shown)) (words_of (map string_bytes c.args.words.now)) _ (search rules) c.preview.ensures.long_input
+
+pub returns-in-Some-Preview-clause-served_cause : goal.returns-in-Some-Preview-clause-served_cause
+returns-in-Some-Preview-clause-served_cause g c =
+    served_unasked c.preview.result (g.S.Store.served c.args.store.now) (preview-not_of_store (meant_shown c.in-Some-Preview.shown) c.preview.result c.preview.ensures.ends)
+
+pub returns-in-Some-Preview-clause-refused_alone : goal.returns-in-Some-Preview-clause-refused_alone
+returns-in-Some-Preview-clause-refused_alone g c =
+    unrefused_unasked c.preview.result (g.S.Store.served c.args.store.now)
+
+pub returns-in-Some-Encode-clause-long_keys : goal.returns-in-Some-Encode-clause-long_keys
+returns-in-Some-Encode-clause-long_keys g c =
+    where_taken Command.encode (words_of (map string_bytes c.args.words.now)) _ (search rules)
+    (long_so most_key_bytes (g.K.Source.left c.args.keys.now) _ _ (λ p. (p.0, refl, p.1, p.2)) c.encode.ensures.long_keys)
+
+pub returns-in-Some-Encode-clause-long_input : goal.returns-in-Some-Encode-clause-long_input
+returns-in-Some-Encode-clause-long_input g c =
+    where_taken Command.encode (words_of (map string_bytes c.args.words.now)) _ (search rules) c.encode.ensures.long_input
+
+pub returns-in-Some-Encode-clause-served_cause : goal.returns-in-Some-Encode-clause-served_cause
+returns-in-Some-Encode-clause-served_cause g c =
+    served_unasked c.encode.result (g.S.Store.served c.args.store.now) (encode-not_of_store c.encode.result c.encode.ensures.ends)
+
+pub returns-in-Some-Encode-clause-refused_alone : goal.returns-in-Some-Encode-clause-refused_alone
+returns-in-Some-Encode-clause-refused_alone g c =
+    unrefused_unasked c.encode.result (g.S.Store.served c.args.store.now)
+
+pub returns-in-Some-Seal-clause-long_keys : goal.returns-in-Some-Seal-clause-long_keys
+returns-in-Some-Seal-clause-long_keys g c =
+    where_taken Command.seal (words_of (map string_bytes c.args.words.now)) _ (search rules)
+    (long_so most_key_bytes (g.K.Source.left c.args.keys.now) _ _ (λ p. (p.0, refl, p.1, refl)) c.seal.ensures.long_keys)
+
+pub returns-in-Some-Seal-clause-long_input : goal.returns-in-Some-Seal-clause-long_input
+returns-in-Some-Seal-clause-long_input g c =
+    where_taken Command.seal (words_of (map string_bytes c.args.words.now)) _ (search rules) c.seal.ensures.long_input
+
+pub returns-in-Some-Seal-clause-served_cause : goal.returns-in-Some-Seal-clause-served_cause
+returns-in-Some-Seal-clause-served_cause g c =
+    served_unasked c.seal.result (g.S.Store.served c.args.store.now) (seal-not_of_store c.seal.result c.seal.ensures.ends)
+
+pub returns-in-Some-Seal-clause-refused_alone : goal.returns-in-Some-Seal-clause-refused_alone
+returns-in-Some-Seal-clause-refused_alone g c =
+    unrefused_unasked c.seal.result (g.S.Store.served c.args.store.now)
+
+pub returns-in-Some-View-clause-long_keys : goal.returns-in-Some-View-clause-long_keys
+returns-in-Some-View-clause-long_keys g c =
+    where_taken (Command.view (meant_shown c.in-Some-View.shown)) (words_of (map string_bytes c.args.words.now)) _ (search rules)
+    (long_so most_key_bytes (g.K.Source.left c.args.keys.now) _ _ (λ p. (p.0, p.1, p.2, refl)) c.view.ensures.long_keys)
+
+pub returns-in-Some-View-clause-long_input : goal.returns-in-Some-View-clause-long_input
+returns-in-Some-View-clause-long_input g c =
+    where_taken (Command.view (meant_shown c.in-Some-View.shown)) (words_of (map string_bytes c.args.words.now)) _ (search rules) c.view.ensures.long_input
+
+pub returns-in-Some-Sample-clause-long_keys : goal.returns-in-Some-Sample-clause-long_keys
+returns-in-Some-Sample-clause-long_keys g c =
+    where_taken (Command.sample c.in-Some-Sample.size) (words_of (map string_bytes c.args.words.now)) _ (search rules) tt
+
+pub returns-in-Some-Sample-clause-long_input : goal.returns-in-Some-Sample-clause-long_input
+returns-in-Some-Sample-clause-long_input g c =
+    where_taken (Command.sample c.in-Some-Sample.size) (words_of (map string_bytes c.args.words.now)) _ (search rules)
+    (other_end 0 (g.K.Source.left c.args.keys.now) (end_of c.sample.result) _ (sample-not_long c.in-Some-Sample.size c.sample.result c.sample.ensures.ends))
+
+pub returns-in-Some-Sample-clause-served_cause : goal.returns-in-Some-Sample-clause-served_cause
+returns-in-Some-Sample-clause-served_cause g c =
+    served_unasked c.sample.result (g.S.Store.served c.args.store.now) (sample-not_of_store c.in-Some-Sample.size c.sample.result c.sample.ensures.ends)
+
+pub returns-in-Some-Sample-clause-refused_alone : goal.returns-in-Some-Sample-clause-refused_alone
+returns-in-Some-Sample-clause-refused_alone g c =
+    unrefused_unasked c.sample.result (g.S.Store.served c.args.store.now)

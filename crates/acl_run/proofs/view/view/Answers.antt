@@ -1,4 +1,4 @@
-use Rattle.std.proofs.Common.{◌≡◌, ℕ, Ok, Err, List, subst}
+use Rattle.std.proofs.Common.{◌≡◌, ℕ, Ok, Err, List, refl, subst}
 use Rattle.std.specs.Io.KnownBytes.{Appends}
 use Rattle.acl_model.specs.declared.rule.Rule.{Rule}
 use Rattle.acl_outside.specs.Outside.{AppendsPart, StoreRead}
@@ -7,14 +7,17 @@ use Rattle.fragment_open.specs.Served.{IsRegular}
 use Rattle.fragment_open.proofs.ClimbLemmas.{Told-weaker}
 use Rattle.file_reading.specs.FileEnds.{FileEnds}
 use Rattle.acl_words.specs.Command.{Command}
-use Rattle.acl_run.specs.Headline.{HasStoreCause, IsOfNoBytes, IsRefusedAsShown}
+use Rattle.acl_run.specs.Headline.{HasServedCause, HasStoreCause, IsOfNoBytes, IsRefusedAsServed, IsRefusedAsShown}
 use Rattle.acl_run.specs.Opening.{IsStoreRefused, StoreEnds}
 use Rattle.acl_run.specs.Preview.{wanted_by, wanted_text}
+use Rattle.acl_run.specs.Readers.{most_key_bytes}
 use Rattle.acl_words.specs.Request.{meant_shown}
 use Rattle.acl_run.specs.Steps.{OrNoMemory}
 use Rattle.acl_run.specs.Texts.{WhereWhole, WritesText}
 use Rattle.acl_run.proofs.HeadlineLemmas.{cause_anyway, due_anyway, each_due, held_due, prefix_of_none, reads_are, unasked, unshown}
 use Rattle.acl_run.proofs.HonestEnds.{keys_honest, licence_honest, wanted_honest, store_honest, writing_prefix, writing_whole, writing_honest}
+use Rattle.acl_run.proofs.Lengths.{ends_at_input, keys_end, keys_not_long, long_anyway, opening-not_long, other_end, query-not_long, writing-not_long}
+use Rattle.acl_run.proofs.Served.{refusal_served, refused_alone, served_anyway, served_unasked, unrefused_alone, unrefused_unasked}
 use Rattle.acl_run.proofs.StoreEnds.{refusal_cause, refusal_regular, refused_so, unrefused_so}
 use Rattle.acl_run.proofs.ViewOrder.{ends_at_keys, ends_at_licence, ends_at_opening, ends_at_showing, ends_at_wanted}
 use Rattle.acl_run.proofs.ViewSteps.{keys-whole, licence-whole, query-whole, store-whole, keys-not_of_store, licence-not_of_store, query-not_of_store, showing-not_of_store}
@@ -213,3 +216,102 @@ returns-clause-refused g c =
     (g.S.Store.served c.args.store.now) (g.S.Store.served c.read_store.new.store) (IsStoreRefused (Ok c.in-Ok-read_store.doc) c.in-Ok-read_sealed_licence.licence.root c.in-Ok.secret.document)
     (λ reads keys licence wanted. IsRefusedAsShown c.show.result licence.root keys.document reads) c.in-Ok-read_store.ensures.exact
     (unrefused_so c.in-Ok-read_store.doc c.show.result c.in-Ok-read_sealed_licence.licence.root c.in-Ok.secret.document)
+
+-- ---- lengths, and what the store served alone
+
+pub returns-in-Err-clause-long_keys : goal.returns-in-Err-clause-long_keys
+returns-in-Err-clause-long_keys g c =
+    long_anyway most_key_bytes (g.K.Source.left c.args.keys.now) _ (refl, refl, refl)
+
+pub returns-in-Err-clause-long_input : goal.returns-in-Err-clause-long_input
+returns-in-Err-clause-long_input g c =
+    keys_end (g.K.Source.left c.args.keys.now) c.in-Err.outcome _ c.in-Err.ensures.answer
+
+pub returns-in-Err-clause-served_cause : goal.returns-in-Err-clause-served_cause
+returns-in-Err-clause-served_cause g c =
+    served_unasked c.in-Err.outcome (g.S.Store.served c.args.store.now)
+    (keys-not_of_store (meant_shown c.args.shown) (end_of c.in-Err.outcome) c.in-Err.ensures.ends)
+
+pub returns-in-Err-clause-refused_alone : goal.returns-in-Err-clause-refused_alone
+returns-in-Err-clause-refused_alone g c =
+    unrefused_unasked c.in-Err.outcome (g.S.Store.served c.args.store.now)
+
+pub returns-in-Err-read_sealed_licence-clause-long_keys : goal.returns-in-Err-read_sealed_licence-clause-long_keys
+returns-in-Err-read_sealed_licence-clause-long_keys g c =
+    keys_not_long (g.K.Source.left c.args.keys.now) c.in-Ok.secret _ c.in-Ok.ensures.answer
+
+pub returns-in-Err-read_sealed_licence-clause-long_input : goal.returns-in-Err-read_sealed_licence-clause-long_input
+returns-in-Err-read_sealed_licence-clause-long_input g c =
+    ends_at_input most_key_bytes (g.K.Source.left c.args.keys.now) (end_of c.in-Err-read_sealed_licence.outcome) _ _
+    c.in-Ok.ensures.to_the_end c.in-Err-read_sealed_licence.ensures.read
+
+pub returns-in-Err-read_sealed_licence-clause-served_cause : goal.returns-in-Err-read_sealed_licence-clause-served_cause
+returns-in-Err-read_sealed_licence-clause-served_cause g c =
+    served_unasked c.in-Err-read_sealed_licence.outcome (g.S.Store.served c.args.store.now)
+    (licence-not_of_store (meant_shown c.args.shown) (end_of c.in-Err-read_sealed_licence.outcome) c.in-Err-read_sealed_licence.ensures.ends)
+
+pub returns-in-Err-read_sealed_licence-clause-refused_alone : goal.returns-in-Err-read_sealed_licence-clause-refused_alone
+returns-in-Err-read_sealed_licence-clause-refused_alone g c =
+    unrefused_unasked c.in-Err-read_sealed_licence.outcome (g.S.Store.served c.args.store.now)
+
+pub returns-in-Err-read_wanted-clause-long_keys : goal.returns-in-Err-read_wanted-clause-long_keys
+returns-in-Err-read_wanted-clause-long_keys g c =
+    keys_not_long (g.K.Source.left c.args.keys.now) c.in-Ok.secret _ c.in-Ok.ensures.answer
+
+pub returns-in-Err-read_wanted-clause-long_input : goal.returns-in-Err-read_wanted-clause-long_input
+returns-in-Err-read_wanted-clause-long_input g c =
+    other_end most_key_bytes (g.K.Source.left c.args.keys.now) (end_of c.in-Err-read_wanted.outcome) _
+    (query-not_long (meant_shown c.args.shown) (end_of c.in-Err-read_wanted.outcome) c.in-Err-read_wanted.ensures.ends)
+
+pub returns-in-Err-read_wanted-clause-served_cause : goal.returns-in-Err-read_wanted-clause-served_cause
+returns-in-Err-read_wanted-clause-served_cause g c =
+    served_unasked c.in-Err-read_wanted.outcome (g.S.Store.served c.args.store.now)
+    (query-not_of_store (meant_shown c.args.shown) (end_of c.in-Err-read_wanted.outcome) c.in-Err-read_wanted.ensures.ends)
+
+pub returns-in-Err-read_wanted-clause-refused_alone : goal.returns-in-Err-read_wanted-clause-refused_alone
+returns-in-Err-read_wanted-clause-refused_alone g c =
+    unrefused_unasked c.in-Err-read_wanted.outcome (g.S.Store.served c.args.store.now)
+
+pub returns-in-Err-read_store-clause-long_keys : goal.returns-in-Err-read_store-clause-long_keys
+returns-in-Err-read_store-clause-long_keys g c =
+    keys_not_long (g.K.Source.left c.args.keys.now) c.in-Ok.secret _ c.in-Ok.ensures.answer
+
+pub returns-in-Err-read_store-clause-long_input : goal.returns-in-Err-read_store-clause-long_input
+returns-in-Err-read_store-clause-long_input g c =
+    other_end most_key_bytes (g.K.Source.left c.args.keys.now) (end_of c.in-Err-read_store.outcome) _
+    (opening-not_long (end_of c.in-Err-read_store.outcome) c.in-Err-read_store.ensures.ends)
+
+pub returns-in-Err-read_store-clause-served_cause : goal.returns-in-Err-read_store-clause-served_cause
+returns-in-Err-read_store-clause-served_cause g c =
+    Told-weaker (g.S.Store.served c.args.store.now) (g.S.Store.served c.read_store.new.store)
+    (StoreEnds (Err c.in-Err-read_store.outcome) c.in-Ok-read_sealed_licence.licence.root c.in-Ok.secret.document)
+    (HasServedCause c.in-Err-read_store.outcome) c.in-Err-read_store.ensures.told
+    (refusal_served c.in-Err-read_store.outcome c.in-Ok-read_sealed_licence.licence.root c.in-Ok.secret.document)
+
+pub returns-in-Err-read_store-clause-refused_alone : goal.returns-in-Err-read_store-clause-refused_alone
+returns-in-Err-read_store-clause-refused_alone g c =
+    Told-weaker (g.S.Store.served c.args.store.now) (g.S.Store.served c.read_store.new.store)
+    (IsStoreRefused (Err c.in-Err-read_store.outcome) c.in-Ok-read_sealed_licence.licence.root c.in-Ok.secret.document)
+    (IsRefusedAsServed c.in-Err-read_store.outcome) c.in-Err-read_store.ensures.exact
+    (refused_alone c.in-Err-read_store.outcome c.in-Ok-read_sealed_licence.licence.root c.in-Ok.secret.document)
+
+pub returns-clause-long_keys : goal.returns-clause-long_keys
+returns-clause-long_keys g c =
+    keys_not_long (g.K.Source.left c.args.keys.now) c.in-Ok.secret _ c.in-Ok.ensures.answer
+
+pub returns-clause-long_input : goal.returns-clause-long_input
+returns-clause-long_input g c =
+    other_end most_key_bytes (g.K.Source.left c.args.keys.now) (end_of c.show.result) _ (writing-not_long (end_of c.show.result) c.show.ensures.ends)
+
+pub returns-clause-served_cause : goal.returns-clause-served_cause
+returns-clause-served_cause g c =
+    served_anyway c.show.result (g.S.Store.served c.args.store.now) (g.S.Store.served c.read_store.new.store)
+    (FileEnds (Ok c.in-Ok-read_store.doc) c.in-Ok-read_sealed_licence.licence.root c.in-Ok.secret.document)
+    (showing-not_of_store (meant_shown c.args.shown) (end_of c.show.result) c.show.ensures.ends) c.in-Ok-read_store.ensures.told
+
+pub returns-clause-refused_alone : goal.returns-clause-refused_alone
+returns-clause-refused_alone g c =
+    Told-weaker (g.S.Store.served c.args.store.now) (g.S.Store.served c.read_store.new.store)
+    (IsStoreRefused (Ok c.in-Ok-read_store.doc) c.in-Ok-read_sealed_licence.licence.root c.in-Ok.secret.document)
+    (IsRefusedAsServed c.show.result) c.in-Ok-read_store.ensures.exact
+    (unrefused_alone c.in-Ok-read_store.doc c.show.result c.in-Ok-read_sealed_licence.licence.root c.in-Ok.secret.document)
