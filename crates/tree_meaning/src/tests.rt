@@ -240,142 +240,117 @@ const HOSPITAL: &str =
 
 const ADMIN: &str = "(-;(-;(Admin;(SSN;-123;)SSN;(Fname;-Li;)Fname;)Admin;)-;)-;";
 
+const FOLDER: &str = "AId CDATA f1;ANote IMPLIED;AId TOKEN 12;(Folder;-a;(x;)x;)Folder";
+
+const WHOLE: &str = "AId CDATA f1;ANote IMPLIED;AId TOKEN 12;(Folder;-a;(x;)x;)Folder;";
+
+const BEARERS: &str = "(r;(a;(c;)c;(b;)b;)a;-x;(a;(c;)c;)a;(x;(a;(b;)b;)a;)x;)r";
+
+/// What a word in capitals stands for, else the text itself.
+fn in_full(text: &str) -> &str {
+    match text.as_bytes() {
+        b"HOSPITAL" => HOSPITAL,
+        b"ADMIN" => ADMIN,
+        b"FOLDER" => FOLDER,
+        b"WHOLE" => WHOLE,
+        b"BEARERS" => BEARERS,
+        _ => text,
+    }
+}
+
+/// The three fields of a row, with `|` between them. A line that begins with `#` is no row.
+fn fields(line: &str) -> Result<Option<(&str, &str, &str)>, Fail> {
+    if line.starts_with('#') {
+        return Ok(None);
+    }
+    let (first, rest) = line.split_once('|').ok_or("one field")?;
+    let (second, third) = rest.split_once('|').ok_or("two fields")?;
+    Ok(Some((first, in_full(second), in_full(third))))
+}
+
+/// Rules, a document and its view.
+const VIEWS: &str = "# The nearest selected element decides, and a denial wins at the same element.
+|(a;-x;)a|
++/a|(a;-x;(b;)b;)a|(a;-x;(b;)b;)a;
++/a/b|(a;-x;(b;-y;)b;)a|(-;(b;-y;)b;)-;
++/a;-/a/b;+/a/b/c|(a;(b;-x;(c;-y;)c;)b;-z;)a|(a;(-;(c;-y;)c;)-;-z;)a;
++/a/b;-/a/b|(a;(b;)b;)a|
++/a;-/a/b|(a;(b;(c;)c;)b;(c;)c;)a|(a;(c;)c;)a;
++/b|(a;(b;)b;)a|
++/Hospital/Folder/Admin|HOSPITAL|ADMIN
++//Folder;-//Admin;+//SSN|HOSPITAL|(-;(Folder;(-;(SSN;-123;)SSN;)-;(Act;(RPhys;-Ana;)RPhys;(Details;-calm;)Details;)Act;)Folder;)-;
++//SSN;-//SSN|HOSPITAL|
+# Descendants and every name are steps.
++//a|(a;(b;)b;)a|(a;(b;)b;)a;
++//a//a|(a;-x;(a;-y;)a;)a|(-;(a;-y;)a;)-;
++/*|(r;-x;)r|(r;-x;)r;
++/*/*|(r;-x;(s;)s;)r|(-;(s;)s;)-;
++//b/c|(a;(b;(d;(c;-1;)c;)d;(c;-2;)c;)b;)a|(-;(-;(c;-2;)c;)-;)-;
++//b//c|(a;(b;(d;(c;-1;)c;)d;)b;(c;-2;)c;)a|(-;(-;(-;(c;-1;)c;)-;)-;)-;
++/a//a/b|(a;(b;-1;)b;(a;(b;-2;)b;)a;)a|(-;(-;(b;-2;)b;)-;)-;
+# Predicates look at the whole document.
+# Evidence behind the target, by a literal and by the user; none; in a denied part.
++//Folder[Act/RPhys='Ana']/Admin|HOSPITAL|ADMIN
++//Folder[Act/RPhys=USER]/Admin|HOSPITAL|ADMIN
++//Folder[Act/RPhys='Bea']/Admin|HOSPITAL|
+-//Act;+//Folder[Act/RPhys='Ana']/Admin|HOSPITAL|ADMIN
+# Evidence behind and before the target.
++//a[b]//c|(a;(a;(c;)c;(b;)b;)a;)a|(-;(-;(c;)c;)-;)-;
++//a[b]//c|(a;(a;(c;)c;)a;(b;)b;)a|(-;(-;(c;)c;)-;)-;
++//a[b]//c|(a;(b;)b;(a;(c;)c;)a;)a|(-;(-;(c;)c;)-;)-;
+# A string-value is joined over the texts inside one element, and not over targets.
++//Act[.='Anacalm']|HOSPITAL|(-;(-;(Act;(RPhys;-Ana;)RPhys;(Details;-calm;)Details;)Act;)-;)-;
++/r[x='12']|(r;(x;-1;)x;(x;-2;)x;)r|
++/r[x='12']|(r;(x;-1;(y;-2;)y;)x;)r|(r;(x;-1;(y;-2;)y;)x;)r;
+# One value of several is enough, for `!=` too; there is none in nothing.
++/r[x!='1']|(r;(x;-1;)x;(x;-2;)x;)r|(r;(x;-1;)x;(x;-2;)x;)r;
++/r[x='3']|(r;(x;-1;)x;(x;-2;)x;)r|
++/r[x!='1']|(r;(y;-2;)y;)r|
++/r[x='']|(r;(x;)x;)r|(r;(x;)x;)r;
+# Descendants are below the bearer, however deep, and the bearer is none of them.
++/r[.//x]|(r;(y;(x;)x;)y;)r|(r;(y;(x;)x;)y;)r;
++/r[x]|(r;(y;(x;)x;)y;)r|
++/x[.//x]|(x;(y;)y;)x|
++/r[.//x/z='1']|(r;(x;(y;(z;-1;)z;)y;)x;)r|
++/r[.//x//z='1']|(r;(x;(y;(z;-1;)z;)y;)x;)r|(r;(x;(y;(z;-1;)z;)y;)x;)r;
+# All predicates of a step count, and those of each step.
++/r[x][y]|(r;(x;)x;)r|
++/r[x][y]|(r;(x;)x;(y;)y;)r|(r;(x;)x;(y;)y;)r;
++/r[x]/s[y]/t[z]|(r;(x;)x;(s;(y;)y;(t;(z;)z;)t;(t;)t;)s;)r|(-;(-;(t;(z;)z;)t;)-;)-;
++/r[x]/s[y]/t[z]|(r;(s;(y;)y;(t;(z;)z;)t;)s;)r|
+# An attribute has a value unless it is implied.
++/Folder[@Id]|FOLDER|WHOLE
++/Folder[@Note]|FOLDER|
++/Folder[@I]|FOLDER|
++/Folder[@Id='f1']|FOLDER|WHOLE
++/Folder[@Id=12]|FOLDER|WHOLE
++/Folder[@Id!=12]|FOLDER|WHOLE
++/Folder[@Id>12]|FOLDER|
++/Folder[x/@Id]|FOLDER|
++//x|FOLDER|(-;(x;)x;)-;
++/r[x/@k='v w']|(r;Ak CDATA v w;(x;)x;)r|(r;Ak CDATA v w;(x;)x;)r;
++/r[*/@k='IMPLIED']|(r;Ak CDATA IMPLIED;(x;)x;)r|(r;Ak CDATA IMPLIED;(x;)x;)r;
++/r[*/@k]|(r;Ak IMPLIED v;(x;)x;)r|
++/r[@k='']|Ak CDATA;(r;)r|Ak CDATA;(r;)r;
+# No name passes a dummy.
++//*|(-;(b;)b;)-|(-;(b;)b;)-;
++/-|(-;(b;)b;)-|
++//*[b]|(-;(-;(b;)b;)-;)-|(-;(-;(b;)b;)-;)-;";
+
+/// Whether a document has its view.
+fn has_its_view(alloc: Global, row: &str) -> Result<bool, Fail> {
+    let Some((rules, lines, view)) = fields(row)? else {
+        return Ok(true);
+    };
+    let made = view_lines(alloc, rules, lines)?;
+    let want = view.replace(alloc, ';', "\n")?;
+    Ok(made.as_slice() == want.as_bytes())
+}
+
 #[test]
 fn a_view_has_what_its_rules_let_through(rt: HostRuntime) -> Result<(), Fail> {
-    let folder = "AId CDATA f1;ANote IMPLIED;AId TOKEN 12;(Folder;-a;(x;)x;)Folder";
-    let whole = "AId CDATA f1;ANote IMPLIED;AId TOKEN 12;(Folder;-a;(x;)x;)Folder;";
-    for (rules, lines, view) in [
-        // The nearest selected element decides, and a denial wins at the same element.
-        ("", "(a;-x;)a", ""),
-        ("+/a", "(a;-x;(b;)b;)a", "(a;-x;(b;)b;)a;"),
-        ("+/a/b", "(a;-x;(b;-y;)b;)a", "(-;(b;-y;)b;)-;"),
-        (
-            "+/a;-/a/b;+/a/b/c",
-            "(a;(b;-x;(c;-y;)c;)b;-z;)a",
-            "(a;(-;(c;-y;)c;)-;-z;)a;",
-        ),
-        ("+/a/b;-/a/b", "(a;(b;)b;)a", ""),
-        ("+/a;-/a/b", "(a;(b;(c;)c;)b;(c;)c;)a", "(a;(c;)c;)a;"),
-        ("+/b", "(a;(b;)b;)a", ""),
-        ("+/Hospital/Folder/Admin", HOSPITAL, ADMIN),
-        (
-            "+//Folder;-//Admin;+//SSN",
-            HOSPITAL,
-            "(-;(Folder;(-;(SSN;-123;)SSN;)-;(Act;(RPhys;-Ana;)RPhys;(Details;-calm;)Details;)Act;)Folder;)-;",
-        ),
-        ("+//SSN;-//SSN", HOSPITAL, ""),
-        // Descendants and every name are steps.
-        ("+//a", "(a;(b;)b;)a", "(a;(b;)b;)a;"),
-        ("+//a//a", "(a;-x;(a;-y;)a;)a", "(-;(a;-y;)a;)-;"),
-        ("+/*", "(r;-x;)r", "(r;-x;)r;"),
-        ("+/*/*", "(r;-x;(s;)s;)r", "(-;(s;)s;)-;"),
-        (
-            "+//b/c",
-            "(a;(b;(d;(c;-1;)c;)d;(c;-2;)c;)b;)a",
-            "(-;(-;(c;-2;)c;)-;)-;",
-        ),
-        (
-            "+//b//c",
-            "(a;(b;(d;(c;-1;)c;)d;)b;(c;-2;)c;)a",
-            "(-;(-;(-;(c;-1;)c;)-;)-;)-;",
-        ),
-        (
-            "+/a//a/b",
-            "(a;(b;-1;)b;(a;(b;-2;)b;)a;)a",
-            "(-;(-;(b;-2;)b;)-;)-;",
-        ),
-        // Predicates look at the whole document.
-        // Evidence behind the target, by a literal and by the user; none; in a denied part.
-        ("+//Folder[Act/RPhys='Ana']/Admin", HOSPITAL, ADMIN),
-        ("+//Folder[Act/RPhys=USER]/Admin", HOSPITAL, ADMIN),
-        ("+//Folder[Act/RPhys='Bea']/Admin", HOSPITAL, ""),
-        ("-//Act;+//Folder[Act/RPhys='Ana']/Admin", HOSPITAL, ADMIN),
-        // Evidence behind and before the target.
-        (
-            "+//a[b]//c",
-            "(a;(a;(c;)c;(b;)b;)a;)a",
-            "(-;(-;(c;)c;)-;)-;",
-        ),
-        (
-            "+//a[b]//c",
-            "(a;(a;(c;)c;)a;(b;)b;)a",
-            "(-;(-;(c;)c;)-;)-;",
-        ),
-        (
-            "+//a[b]//c",
-            "(a;(b;)b;(a;(c;)c;)a;)a",
-            "(-;(-;(c;)c;)-;)-;",
-        ),
-        // A string-value is joined over the texts inside one element, and not over targets.
-        (
-            "+//Act[.='Anacalm']",
-            HOSPITAL,
-            "(-;(-;(Act;(RPhys;-Ana;)RPhys;(Details;-calm;)Details;)Act;)-;)-;",
-        ),
-        ("+/r[x='12']", "(r;(x;-1;)x;(x;-2;)x;)r", ""),
-        (
-            "+/r[x='12']",
-            "(r;(x;-1;(y;-2;)y;)x;)r",
-            "(r;(x;-1;(y;-2;)y;)x;)r;",
-        ),
-        // One value of several is enough, for `!=` too; there is none in nothing.
-        (
-            "+/r[x!='1']",
-            "(r;(x;-1;)x;(x;-2;)x;)r",
-            "(r;(x;-1;)x;(x;-2;)x;)r;",
-        ),
-        ("+/r[x='3']", "(r;(x;-1;)x;(x;-2;)x;)r", ""),
-        ("+/r[x!='1']", "(r;(y;-2;)y;)r", ""),
-        ("+/r[x='']", "(r;(x;)x;)r", "(r;(x;)x;)r;"),
-        // Descendants are below the bearer, however deep, and the bearer is none of them.
-        ("+/r[.//x]", "(r;(y;(x;)x;)y;)r", "(r;(y;(x;)x;)y;)r;"),
-        ("+/r[x]", "(r;(y;(x;)x;)y;)r", ""),
-        ("+/x[.//x]", "(x;(y;)y;)x", ""),
-        ("+/r[.//x/z='1']", "(r;(x;(y;(z;-1;)z;)y;)x;)r", ""),
-        (
-            "+/r[.//x//z='1']",
-            "(r;(x;(y;(z;-1;)z;)y;)x;)r",
-            "(r;(x;(y;(z;-1;)z;)y;)x;)r;",
-        ),
-        // All predicates of a step count, and those of each step.
-        ("+/r[x][y]", "(r;(x;)x;)r", ""),
-        ("+/r[x][y]", "(r;(x;)x;(y;)y;)r", "(r;(x;)x;(y;)y;)r;"),
-        (
-            "+/r[x]/s[y]/t[z]",
-            "(r;(x;)x;(s;(y;)y;(t;(z;)z;)t;(t;)t;)s;)r",
-            "(-;(-;(t;(z;)z;)t;)-;)-;",
-        ),
-        ("+/r[x]/s[y]/t[z]", "(r;(s;(y;)y;(t;(z;)z;)t;)s;)r", ""),
-        // An attribute has a value unless it is implied.
-        ("+/Folder[@Id]", folder, whole),
-        ("+/Folder[@Note]", folder, ""),
-        ("+/Folder[@I]", folder, ""),
-        ("+/Folder[@Id='f1']", folder, whole),
-        ("+/Folder[@Id=12]", folder, whole),
-        ("+/Folder[@Id!=12]", folder, whole),
-        ("+/Folder[@Id>12]", folder, ""),
-        ("+/Folder[x/@Id]", folder, ""),
-        ("+//x", folder, "(-;(x;)x;)-;"),
-        (
-            "+/r[x/@k='v w']",
-            "(r;Ak CDATA v w;(x;)x;)r",
-            "(r;Ak CDATA v w;(x;)x;)r;",
-        ),
-        (
-            "+/r[*/@k='IMPLIED']",
-            "(r;Ak CDATA IMPLIED;(x;)x;)r",
-            "(r;Ak CDATA IMPLIED;(x;)x;)r;",
-        ),
-        ("+/r[*/@k]", "(r;Ak IMPLIED v;(x;)x;)r", ""),
-        ("+/r[@k='']", "Ak CDATA;(r;)r", "Ak CDATA;(r;)r;"),
-        // No name passes a dummy.
-        ("+//*", "(-;(b;)b;)-", "(-;(b;)b;)-;"),
-        ("+/-", "(-;(b;)b;)-", ""),
-        ("+//*[b]", "(-;(-;(b;)b;)-;)-", "(-;(-;(b;)b;)-;)-;"),
-    ] {
-        let made = view_lines(rt.alloc(), rules, lines)?;
-        let want = view.replace(rt.alloc(), ';', "\n")?;
-        assert_eq!(rt; made.as_slice(), want.as_bytes(), "{rules} on {lines}");
+    for row in VIEWS.lines() {
+        assert!(rt; has_its_view(rt.alloc(), row)?, "{row}");
     }
     Ok(())
 }
@@ -388,45 +363,52 @@ fn does_compare(alloc: Global, comparison: &str, text: &str) -> Result<bool, Fai
     Ok(!made.is_empty())
 }
 
+/// A text, a comparison, and whether it holds.
+const COMPARISONS: &str = "9|<10|holds
+9|=09|holds
+09|=9|holds
+9|='09'|fails
+9|>='x'|fails
+x|<='9'|fails
+9|<'10'|holds
+9|!=9|fails
+x|!=9|holds
+ 9|=9|fails
+ 9|!=9|holds
+|=0|fails
+|!=0|holds
+|=''|holds
+|<1|fails
+-|!=0|holds
+-0|=0|holds
+-1|<0|holds
+-1|>=-1|holds
+-2|<-1|holds
+--1|<0|fails
+1-|>0|fails
+10|<=9|fails
+10|>9|holds
+999999999999999999|>999999999999999998|holds
+9999999999999999999|>999999999999999998|fails
+0000000000000000009|=9|fails
+000000000000000009|=9|holds
+Ana|=USER|holds
+Anab|=USER|fails
+An|=USER|fails
+An|!=USER|holds";
+
+/// Whether a comparison holds where it should, and fails where it should.
+fn compares_as_told(alloc: Global, row: &str) -> Result<bool, Fail> {
+    let Some((text, comparison, told)) = fields(row)? else {
+        return Ok(true);
+    };
+    Ok(does_compare(alloc, comparison, text)? == (told == "holds"))
+}
+
 #[test]
 fn a_value_is_compared_as_a_text_or_as_a_whole_number(rt: HostRuntime) -> Result<(), Fail> {
-    let alloc = rt.alloc();
-    for (text, comparison, holds) in [
-        ("9", "<10", true),
-        ("9", "=09", true),
-        ("09", "=9", true),
-        ("9", "='09'", false),
-        ("9", ">='x'", false),
-        ("x", "<='9'", false),
-        ("9", "<'10'", true),
-        ("9", "!=9", false),
-        ("x", "!=9", true),
-        (" 9", "=9", false),
-        (" 9", "!=9", true),
-        ("", "=0", false),
-        ("", "!=0", true),
-        ("", "=''", true),
-        ("", "<1", false),
-        ("-", "!=0", true),
-        ("-0", "=0", true),
-        ("-1", "<0", true),
-        ("-1", ">=-1", true),
-        ("-2", "<-1", true),
-        ("--1", "<0", false),
-        ("1-", ">0", false),
-        ("10", "<=9", false),
-        ("10", ">9", true),
-        ("999999999999999999", ">999999999999999998", true),
-        ("9999999999999999999", ">999999999999999998", false),
-        ("0000000000000000009", "=9", false),
-        ("000000000000000009", "=9", true),
-        ("Ana", "=USER", true),
-        ("Anab", "=USER", false),
-        ("An", "=USER", false),
-        ("An", "!=USER", true),
-    ] {
-        let does = does_compare(alloc, comparison, text)?;
-        assert_eq!(rt; does, holds, "{text} {comparison}");
+    for row in COMPARISONS.lines() {
+        assert!(rt; compares_as_told(rt.alloc(), row)?, "{row}");
     }
     Ok(())
 }
@@ -462,85 +444,56 @@ fn many_descendant_steps_end_at_once(rt: HostRuntime) -> Result<(), Fail> {
     Ok(())
 }
 
+/// Rules, a document, and a sign at a place.
+const SIGNS: &str = "+//Folder;-//Admin;+//SSN|HOSPITAL|- 
++//Folder;-//Admin;+//SSN|HOSPITAL|+ 1
++//Folder;-//Admin;+//SSN|HOSPITAL|- 1/1
++//Folder;-//Admin;+//SSN|HOSPITAL|+ 1/1/1
++//Folder;-//Admin;+//SSN|HOSPITAL|- 1/1/2
++//Folder;-//Admin;+//SSN|HOSPITAL|+ 1/2/2
++//Folder;-//Admin;+//SSN|HOSPITAL|none 1/0
++//Folder;-//Admin;+//SSN|HOSPITAL|none 1/3
++//Folder;-//Admin;+//SSN|HOSPITAL|none 2
++//Folder;-//Admin;+//SSN|HOSPITAL|none 1/2/2/1
+# Of the elements before the place only the predicates are passed.
++//a[b];-//c|BEARERS|+ 1
++//a[b];-//c|BEARERS|- 1/1
++//a[b];-//c|BEARERS|+ 1/2
++//a[b];-//c|BEARERS|- 2
++//a[b];-//c|BEARERS|- 3
++//a[b];-//c|BEARERS|+ 3/1/1
++//a[b];-//c|BEARERS|none 4";
+
+/// The place of these numbers, with `/` between them.
+fn place(alloc: Global, text: &str) -> Result<Place, Fail> {
+    let mut numbers = Vec::new(alloc);
+    for number in text.split_terminator('/') {
+        numbers.push(number.parse()?)?;
+    }
+    Ok(Place::from_slice(alloc, numbers.as_slice())?)
+}
+
+/// Whether the sign is the one told.
+fn has_its_sign(alloc: Global, row: &str) -> Result<bool, Fail> {
+    let Some((text, lines, told)) = fields(row)? else {
+        return Ok(true);
+    };
+    let (sign, numbers) = told.split_once(' ').ok_or("no place")?;
+    let want = match sign.as_bytes() {
+        b"+" => Some(Sign::Grant),
+        b"-" => Some(Sign::Deny),
+        _ => None,
+    };
+    let rules = rules(alloc, text)?;
+    let doc = document(alloc, lines)?;
+    let place = place(alloc, numbers)?;
+    Ok(sign_at(alloc, &doc, rules.as_slice(), &place)? == want)
+}
+
 #[test]
 fn a_sign_is_that_of_the_nearest_selected_element(rt: HostRuntime) -> Result<(), Fail> {
-    let alloc = rt.alloc();
-    let with_b = "(r;(a;(c;)c;(b;)b;)a;-x;(a;(c;)c;)a;(x;(a;(b;)b;)a;)x;)r";
-    for (text, lines, place, sign) in [
-        (
-            "+//Folder;-//Admin;+//SSN",
-            HOSPITAL,
-            [].as_slice(),
-            Some(Sign::Deny),
-        ),
-        (
-            "+//Folder;-//Admin;+//SSN",
-            HOSPITAL,
-            [1].as_slice(),
-            Some(Sign::Grant),
-        ),
-        (
-            "+//Folder;-//Admin;+//SSN",
-            HOSPITAL,
-            [1, 1].as_slice(),
-            Some(Sign::Deny),
-        ),
-        (
-            "+//Folder;-//Admin;+//SSN",
-            HOSPITAL,
-            [1, 1, 1].as_slice(),
-            Some(Sign::Grant),
-        ),
-        (
-            "+//Folder;-//Admin;+//SSN",
-            HOSPITAL,
-            [1, 1, 2].as_slice(),
-            Some(Sign::Deny),
-        ),
-        (
-            "+//Folder;-//Admin;+//SSN",
-            HOSPITAL,
-            [1, 2, 2].as_slice(),
-            Some(Sign::Grant),
-        ),
-        (
-            "+//Folder;-//Admin;+//SSN",
-            HOSPITAL,
-            [1, 0].as_slice(),
-            None,
-        ),
-        (
-            "+//Folder;-//Admin;+//SSN",
-            HOSPITAL,
-            [1, 3].as_slice(),
-            None,
-        ),
-        ("+//Folder;-//Admin;+//SSN", HOSPITAL, [2].as_slice(), None),
-        (
-            "+//Folder;-//Admin;+//SSN",
-            HOSPITAL,
-            [1, 2, 2, 1].as_slice(),
-            None,
-        ),
-        // Of the elements before the place only the predicates are passed.
-        ("+//a[b];-//c", with_b, [1].as_slice(), Some(Sign::Grant)),
-        ("+//a[b];-//c", with_b, [1, 1].as_slice(), Some(Sign::Deny)),
-        ("+//a[b];-//c", with_b, [1, 2].as_slice(), Some(Sign::Grant)),
-        ("+//a[b];-//c", with_b, [2].as_slice(), Some(Sign::Deny)),
-        ("+//a[b];-//c", with_b, [3].as_slice(), Some(Sign::Deny)),
-        (
-            "+//a[b];-//c",
-            with_b,
-            [3, 1, 1].as_slice(),
-            Some(Sign::Grant),
-        ),
-        ("+//a[b];-//c", with_b, [4].as_slice(), None),
-    ] {
-        let rules = rules(alloc, text)?;
-        let doc = document(alloc, lines)?;
-        let place = Place::from_slice(alloc, place)?;
-        let found = sign_at(alloc, &doc, rules.as_slice(), &place)?;
-        assert_eq!(rt; found, sign, "{text}");
+    for row in SIGNS.lines() {
+        assert!(rt; has_its_sign(rt.alloc(), row)?, "{row}");
     }
     Ok(())
 }
