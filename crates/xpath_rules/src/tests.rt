@@ -37,202 +37,209 @@ fn repeated(alloc: Global, parts: &[(&[u8], u32)]) -> Result<Vec<u8>, AllocError
     Ok(bytes)
 }
 
-// What it shows, a path, bytes that are none, and the place of their fault.
-type Row<'a> = (&'a str, &'a [u8], &'a [u8], u32);
+// Whether a row is told: what it shows, a path, bytes that are none, and the place of their fault, with `|` between them.
+fn is_told(alloc: Global, row: &str) -> Result<bool, Fail> {
+    let (_, rest) = row.split_once('|').ok_or("one field")?;
+    let (path, rest) = rest.split_once('|').ok_or("two fields")?;
+    let (refused, at) = rest.split_once('|').ok_or("three fields")?;
+    are_told(alloc, path.as_bytes(), refused.as_bytes(), at.parse()?)
+}
+
+// Whether these are a path, and those none by a fault at a place.
+fn are_told(alloc: Global, path: &[u8], refused: &[u8], at: u32) -> Result<bool, Fail> {
+    Ok(place(alloc, path)?.is_none() && place(alloc, refused)? == Some(at))
+}
+
+const STEPS: &str = "a path is not empty|/a||0
+a slash comes first|/Hospital|Hospital|0
+a test behind it|/a|/|1
+or behind two|//a|//|2
+and not three|//a//b|///a|2
+also behind a step|/a/b//c|/a/|3
+none is open at the end|/a//b|/a//|4
+no space before|/a| /a|0
+none in between|/a|/ a|1
+none behind|/a|/a |2
+a name goes on|/a-b.c:9_|/a+b|2
+it begins with a letter|/a.5|/.5|1
+or an underscore|/_5|/5|1
+or a colon|/:-|/-|1
+NUL is in no name|/a|/a\x00|2
+the user is a name there|/USER|/U SER|2
+a star is a test|/*//*|/**|2
+a whole one|/*/a|/*a|2
+and in no name|/a/*|/a*|2
+no attribute is a step|/a[@b]|/@b|1
+nor behind one|/a[b/@c]|/a/@b|3
+nor deep below one|/a[.//b/@c]|/a//@b|4
+a name ends at its predicate|/a[@b]/c|/a[@b]c|6";
 
 #[test]
 fn steps_have_slashes_and_tests(rt: HostRuntime) -> Result<(), Fail> {
-    let rows: [Row<'_>; 24] = [
-        ("a path is not empty", b"/a", b"", 0),
-        ("a slash comes first", b"/Hospital", b"Hospital", 0),
-        ("a test behind it", b"/a", b"/", 1),
-        ("or behind two", b"//a", b"//", 2),
-        ("and not three", b"//a//b", b"///a", 2),
-        ("also behind a step", b"/a/b//c", b"/a/", 3),
-        ("none is open at the end", b"/a//b", b"/a//", 4),
-        ("no space before", b"/a", b" /a", 0),
-        ("none in between", b"/a", b"/ a", 1),
-        ("none behind", b"/a", b"/a ", 2),
-        ("a name goes on", b"/a-b.c:9_", b"/a+b", 2),
-        ("it begins with a letter", b"/a.5", b"/.5", 1),
-        ("or an underscore", b"/_5", b"/5", 1),
-        ("or a colon", b"/:-", b"/-", 1),
-        ("or a byte from 128 on", b"/\x80\xff", b"/\x7f", 1),
-        ("NUL is in no name", b"/a", b"/a\x00", 2),
-        ("the user is a name there", b"/USER", b"/U SER", 2),
-        ("a star is a test", b"/*//*", b"/**", 2),
-        ("a whole one", b"/*/a", b"/*a", 2),
-        ("and in no name", b"/a/*", b"/a*", 2),
-        ("no attribute is a step", b"/a[@b]", b"/@b", 1),
-        ("nor behind one", b"/a[b/@c]", b"/a/@b", 3),
-        ("nor deep below one", b"/a[.//b/@c]", b"/a//@b", 4),
-        ("a name ends at its predicate", b"/a[@b]/c", b"/a[@b]c", 6),
-    ];
-    for (what, path, refused, at) in rows {
-        assert_eq!(rt; place(rt.alloc(), path)?, None, "{what}");
-        assert_eq!(rt; place(rt.alloc(), refused)?, Some(at), "{what}");
+    for row in STEPS.lines() {
+        assert!(rt; is_told(rt.alloc(), row)?, "{row}");
     }
     Ok(())
 }
+
+const PREDICATES: &str = "a predicate ends|//a[b]|//a[b|5
+it is not empty|/a[b]|/a[]|3
+a name is whole|/a[USERS]|/a[USER S]|8
+nor only spaces|/a[  b  ]|/a[  ]|5
+no other blank|/a[ b]|/a[\tb]|3
+it stands at its step|/a[b][c]|/a [b]|2
+directly|/a[b][c]|/a[b] [c]|5
+one way|/a[b/c]|/a[b c]|5
+it is relative|/a[b//c/*]|/a[/b]|3
+in both axes|/a[.//b]|/a[//b]|3
+it has a test last|/a[b/c]|/a[b/]|5
+no predicate in it|/a[b]|/a[b[c]]|4
+a dot goes deep|/a[.//*]|/a[./b]|5
+not behind a space|/a[ .//b]|/a[. //b]|5
+to a test|/a[.//b]|/a[.//]|6
+a dot alone is compared|//a[.=1]|//a[.]|5
+also behind spaces|/a[ . = 1 ]|/a[ . ]|6
+one dot|/a[.=1]|/a[..]|4
+an attribute has a name|/a[@b.c]|/a[@]|4
+no star|/a[@b]|/a[@*]|4
+directly behind|/a[ @b ]|/a[@ b]|4
+it ends the body|/a[@b]|/a[@b/c]|5
+also behind a way|/a[b/@c]|/a[b/@c/d]|7
+as an attribute of its end|/a[b/@c]|/a[b//@c]|6
+and no nearer|/a[.//b/@c]|/a[.//@c]|6
+one attribute|/a[b/c/@d]|/a[@b@c]|5";
 
 #[test]
 fn predicates_have_bodies(rt: HostRuntime) -> Result<(), Fail> {
-    let rows: [Row<'_>; 27] = [
-        ("a predicate ends", b"//a[b]", b"//a[b", 5),
-        ("it is not empty", b"/a[b]", b"/a[]", 3),
-        ("spaces stand behind", b"/a[b ]", b"/a[b\n]", 4),
-        ("a name is whole", b"/a[USERS]", b"/a[USER S]", 8),
-        ("nor only spaces", b"/a[  b  ]", b"/a[  ]", 5),
-        ("no other blank", b"/a[ b]", b"/a[\tb]", 3),
-        ("it stands at its step", b"/a[b][c]", b"/a [b]", 2),
-        ("directly", b"/a[b][c]", b"/a[b] [c]", 5),
-        ("one way", b"/a[b/c]", b"/a[b c]", 5),
-        ("it is relative", b"/a[b//c/*]", b"/a[/b]", 3),
-        ("in both axes", b"/a[.//b]", b"/a[//b]", 3),
-        ("it has a test last", b"/a[b/c]", b"/a[b/]", 5),
-        ("no predicate in it", b"/a[b]", b"/a[b[c]]", 4),
-        ("a dot goes deep", b"/a[.//*]", b"/a[./b]", 5),
-        ("not behind a space", b"/a[ .//b]", b"/a[. //b]", 5),
-        ("to a test", b"/a[.//b]", b"/a[.//]", 6),
-        ("a dot alone is compared", b"//a[.=1]", b"//a[.]", 5),
-        ("also behind spaces", b"/a[ . = 1 ]", b"/a[ . ]", 6),
-        ("one dot", b"/a[.=1]", b"/a[..]", 4),
-        ("an attribute has a name", b"/a[@b.c]", b"/a[@]", 4),
-        ("no star", b"/a[@b]", b"/a[@*]", 4),
-        ("directly behind", b"/a[ @b ]", b"/a[@ b]", 4),
-        ("it ends the body", b"/a[@b]", b"/a[@b/c]", 5),
-        ("also behind a way", b"/a[b/@c]", b"/a[b/@c/d]", 7),
-        ("as an attribute of its end", b"/a[b/@c]", b"/a[b//@c]", 6),
-        ("and no nearer", b"/a[.//b/@c]", b"/a[.//@c]", 6),
-        ("one attribute", b"/a[b/c/@d]", b"/a[@b@c]", 5),
-    ];
-    for (what, path, refused, at) in rows {
-        assert_eq!(rt; place(rt.alloc(), path)?, None, "{what}");
-        assert_eq!(rt; place(rt.alloc(), refused)?, Some(at), "{what}");
+    for row in PREDICATES.lines() {
+        assert!(rt; is_told(rt.alloc(), row)?, "{row}");
     }
     Ok(())
 }
+
+const COMPARISONS: &str = "equal|/a[b = 1]|/a[b==1]|5
+unequal|/a[b  !=1]|/a[b! =1]|5
+less|/a[b<1]|/a[b<>1]|5
+at most|/a[b <= 1]|/a[b < = 1]|7
+greater|/a[b> 1]|/a[b>>1]|5
+at least|/a[b >= 1]|/a[b => 1]|6
+a sign is whole|/a[b!=1]|/a[b!1]|5
+an operand is there|//a[b = 1]|//a[b = ]|8
+it is no way|/a[b='c']|/a[b=c]|5
+on the right|/a[b=1]|/a[1=b]|3
+one comparison|/a[b=1]|/a[b=1=1]|6
+a body is compared|/a[@b='c']|/a['c']|3
+the user|/a[b = USER ]|/a[b=USERS]|9
+whole|/a[b=USER]|/a[b=USE]|8
+in capitals|/a[USER=USER]|/a[b=User]|6
+no letter alone|/a[U=USER]|/a[b=U]|6
+nor two|/a[US=USER]|/a[b=US]|7
+a digit|/a[b=0]|/a[b=]|5
+zeros before it|/a[b=0090]|/a[b=0 90]|7
+less than nothing|/a[b=-07]|/a[b=--7]|6
+a digit behind a minus|/a[b= -7]|/a[b=- 7]|6
+nothing is not negative|/a[b=-0]|/a[b=-]|6
+with zeros too|/a[b!=-000]|/a[b=+0]|5
+a whole number|/a[b=15]|/a[b=1.5]|6
+in decimal|/a[b=10]|/a[b=1e1]|6
+of 18 digits|/a[b=-999999999999999999]|/a[b=-9999999999999999999]|24
+or above nothing|/a[b=999999999999999999]|/a[b=9999999999999999999]|23
+zeros counted|/a[b=000000000000000001]|/a[b=0000000000000000001]|23";
 
 #[test]
 fn bodies_are_compared(rt: HostRuntime) -> Result<(), Fail> {
-    let rows: [Row<'_>; 28] = [
-        ("equal", b"/a[b = 1]", b"/a[b==1]", 5),
-        ("unequal", b"/a[b  !=1]", b"/a[b! =1]", 5),
-        ("less", b"/a[b<1]", b"/a[b<>1]", 5),
-        ("at most", b"/a[b <= 1]", b"/a[b < = 1]", 7),
-        ("greater", b"/a[b> 1]", b"/a[b>>1]", 5),
-        ("at least", b"/a[b >= 1]", b"/a[b => 1]", 6),
-        ("a sign is whole", b"/a[b!=1]", b"/a[b!1]", 5),
-        ("an operand is there", b"//a[b = 1]", b"//a[b = ]", 8),
-        ("it is no way", b"/a[b='c']", b"/a[b=c]", 5),
-        ("on the right", b"/a[b=1]", b"/a[1=b]", 3),
-        ("one comparison", b"/a[b=1]", b"/a[b=1=1]", 6),
-        ("a body is compared", b"/a[@b='c']", b"/a['c']", 3),
-        ("the user", b"/a[b = USER ]", b"/a[b=USERS]", 9),
-        ("whole", b"/a[b=USER]", b"/a[b=USE]", 8),
-        ("in capitals", b"/a[USER=USER]", b"/a[b=User]", 6),
-        ("no letter alone", b"/a[U=USER]", b"/a[b=U]", 6),
-        ("nor two", b"/a[US=USER]", b"/a[b=US]", 7),
-        ("a digit", b"/a[b=0]", b"/a[b=]", 5),
-        ("zeros before it", b"/a[b=0090]", b"/a[b=0 90]", 7),
-        ("less than nothing", b"/a[b=-07]", b"/a[b=--7]", 6),
-        ("a digit behind a minus", b"/a[b= -7]", b"/a[b=- 7]", 6),
-        ("nothing is not negative", b"/a[b=-0]", b"/a[b=-]", 6),
-        ("with zeros too", b"/a[b!=-000]", b"/a[b=+0]", 5),
-        ("a whole number", b"/a[b=15]", b"/a[b=1.5]", 6),
-        ("in decimal", b"/a[b=10]", b"/a[b=1e1]", 6),
-        (
-            "of 18 digits",
-            b"/a[b=-999999999999999999]",
-            b"/a[b=-9999999999999999999]",
-            24,
-        ),
-        (
-            "or above nothing",
-            b"/a[b=999999999999999999]",
-            b"/a[b=9999999999999999999]",
-            23,
-        ),
-        (
-            "zeros counted",
-            b"/a[b=000000000000000001]",
-            b"/a[b=0000000000000000001]",
-            23,
-        ),
-    ];
-    for (what, path, refused, at) in rows {
-        assert_eq!(rt; place(rt.alloc(), path)?, None, "{what}");
-        assert_eq!(rt; place(rt.alloc(), refused)?, Some(at), "{what}");
+    for row in COMPARISONS.lines() {
+        assert!(rt; is_told(rt.alloc(), row)?, "{row}");
     }
     Ok(())
 }
+
+const LITERALS: &str = "double|/a[b=\"x\"]|/a[b=\"x]|8
+single|/a[b='x']|/a[b='x]|8
+empty|/a[b='']|/a[b=''']|7
+equal ones|/a[b='x']|/a[b='x\"]|9
+the other inside|//a[ b = 'x\"y' ]|//a[b='x'y']|9
+both ways|/a[b=\"x'y\"]|/a[b=\"x\"y\"]|8
+spaces are kept|/a[b= ' x ' ]|/a[b=' x ' ']|11
+brackets too|/a[b=']/[']|/a[b=']|7
+no word inside|/a[b='USER']|/a[b='USER]|11
+no number inside|/a[b='007']|/a[b='007]|10";
 
 #[test]
 fn literals_stand_between_equal_quotes(rt: HostRuntime) -> Result<(), Fail> {
-    let rows: [Row<'_>; 11] = [
-        ("double", b"/a[b=\"x\"]", b"/a[b=\"x]", 8),
-        ("single", b"/a[b='x']", b"/a[b='x]", 8),
-        ("empty", b"/a[b='']", b"/a[b=''']", 7),
-        ("equal ones", b"/a[b='x']", b"/a[b='x\"]", 9),
-        ("the other inside", b"//a[ b = 'x\"y' ]", b"//a[b='x'y']", 9),
-        ("both ways", b"/a[b=\"x'y\"]", b"/a[b=\"x\"y\"]", 8),
-        ("spaces are kept", b"/a[b= ' x ' ]", b"/a[b=' x ' ']", 11),
-        ("brackets too", b"/a[b=']/[']", b"/a[b=']", 7),
-        ("no word inside", b"/a[b='USER']", b"/a[b='USER]", 11),
-        ("no number inside", b"/a[b='007']", b"/a[b='007]", 10),
-        ("any byte", b"/a[b='\x00\xff\r']", b"/a[b='\x00\n']", 7),
-    ];
-    for (what, path, refused, at) in rows {
-        assert_eq!(rt; place(rt.alloc(), path)?, None, "{what}");
-        assert_eq!(rt; place(rt.alloc(), refused)?, Some(at), "{what}");
+    for row in LITERALS.lines() {
+        assert!(rt; is_told(rt.alloc(), row)?, "{row}");
     }
     Ok(())
 }
 
 #[test]
-fn a_path_is_written_without_what_its_spelling_adds(rt: HostRuntime) -> Result<(), Fail> {
-    let rows: [(&[u8], &[u8]); 35] = [
-        (b"//a/*//:-", b"//a/*//:-"),
-        (b"/a[b//c/*]", b"/a[b//c/*]"),
-        (b"/a[.//*/@c]", b"/a[.//*/@c]"),
-        (b"/a[b][@c]", b"/a[b][@c]"),
-        (b"/a[b<1][b>1]", b"/a[b<1][b>1]"),
-        (b"/a[b='\"']", b"/a[b='\"']"),
-        (b"/a[  b  ]", b"/a[b]"),
-        (b"/a[ b]", b"/a[b]"),
-        (b"/a[ .//b]", b"/a[.//b]"),
-        (b"/a[ . = 1 ]", b"/a[.=1]"),
-        (b"/a[ @b ]", b"/a[@b]"),
-        (b"/a[b = 1]", b"/a[b=1]"),
-        (b"/a[b  !=1]", b"/a[b!=1]"),
-        (b"/a[b <= 1]", b"/a[b<=1]"),
-        (b"/a[b> 1]", b"/a[b>1]"),
-        (b"/a[b >= 1]", b"/a[b>=1]"),
-        (b"//a[b = 1]", b"//a[b=1]"),
-        (b"/a[b='c']", b"/a[b=\"c\"]"),
-        (b"/a[@b='c']", b"/a[@b=\"c\"]"),
-        (b"/a[b = USER ]", b"/a[b=USER]"),
-        (b"/a[b=0090]", b"/a[b=90]"),
-        (b"/a[b=-07]", b"/a[b=-7]"),
-        (b"/a[b= -7]", b"/a[b=-7]"),
-        (b"/a[b=-0]", b"/a[b=0]"),
-        (b"/a[b!=-000]", b"/a[b!=0]"),
-        (b"/a[b=000000000000000001]", b"/a[b=1]"),
-        (b"/a[b='x']", b"/a[b=\"x\"]"),
-        (b"/a[b='']", b"/a[b=\"\"]"),
-        (b"/a[b='x']", b"/a[b=\"x\"]"),
-        (b"//a[ b = 'x\"y' ]", b"//a[b='x\"y']"),
-        (b"/a[b= ' x ' ]", b"/a[b=\" x \"]"),
-        (b"/a[b=']/[']", b"/a[b=\"]/[\"]"),
-        (b"/a[b='USER']", b"/a[b=\"USER\"]"),
-        (b"/a[b='007']", b"/a[b=\"007\"]"),
-        (b"/a[b='\x00\xff\r']", b"/a[b=\"\x00\xff\r\"]"),
+fn names_and_literals_have_bytes_that_are_no_text(rt: HostRuntime) -> Result<(), Fail> {
+    let rows: [(&str, &[u8], &[u8], u32); 3] = [
+        ("or a byte from 128 on", b"/\x80\xff", b"/\x7f", 1),
+        ("spaces stand behind", b"/a[b ]", b"/a[b\n]", 4),
+        ("any byte", b"/a[b='\x00\xff\r']", b"/a[b='\x00\n']", 7),
     ];
-    for (bytes, wanted) in rows {
-        let canonical = rewritten(rt.alloc(), bytes)?;
-        assert_eq!(rt; canonical.as_slice(), wanted);
-        let again = rewritten(rt.alloc(), wanted)?;
-        assert_eq!(rt; again.as_slice(), wanted);
+    for (what, path, refused, at) in rows {
+        assert!(rt; are_told(rt.alloc(), path, refused, at)?, "{what}");
+    }
+    let any = b"/a[b='\x00\xff\r']";
+    assert!(rt; is_written_as(rt.alloc(), any, b"/a[b=\"\x00\xff\r\"]")?);
+    Ok(())
+}
+
+// Whether a path is written in this spelling, and what is so spelled as well.
+fn is_written_as(alloc: Global, path: &[u8], wanted: &[u8]) -> Result<bool, Fail> {
+    let canonical = rewritten(alloc, path)?;
+    let again = rewritten(alloc, wanted)?;
+    Ok(canonical.as_slice() == wanted && again.as_slice() == wanted)
+}
+
+// The same of a row: a path, `|` and how it is written.
+fn is_written_as_told(alloc: Global, row: &str) -> Result<bool, Fail> {
+    let (path, wanted) = row.split_once('|').ok_or("one field")?;
+    is_written_as(alloc, path.as_bytes(), wanted.as_bytes())
+}
+
+const CANONICAL: &str = "//a/*//:-|//a/*//:-
+/a[b//c/*]|/a[b//c/*]
+/a[.//*/@c]|/a[.//*/@c]
+/a[b][@c]|/a[b][@c]
+/a[b<1][b>1]|/a[b<1][b>1]
+/a[b='\"']|/a[b='\"']
+/a[  b  ]|/a[b]
+/a[ b]|/a[b]
+/a[ .//b]|/a[.//b]
+/a[ . = 1 ]|/a[.=1]
+/a[ @b ]|/a[@b]
+/a[b = 1]|/a[b=1]
+/a[b  !=1]|/a[b!=1]
+/a[b <= 1]|/a[b<=1]
+/a[b> 1]|/a[b>1]
+/a[b >= 1]|/a[b>=1]
+//a[b = 1]|//a[b=1]
+/a[b='c']|/a[b=\"c\"]
+/a[@b='c']|/a[@b=\"c\"]
+/a[b = USER ]|/a[b=USER]
+/a[b=0090]|/a[b=90]
+/a[b=-07]|/a[b=-7]
+/a[b= -7]|/a[b=-7]
+/a[b=-0]|/a[b=0]
+/a[b!=-000]|/a[b!=0]
+/a[b=000000000000000001]|/a[b=1]
+/a[b='x']|/a[b=\"x\"]
+/a[b='']|/a[b=\"\"]
+/a[b='x']|/a[b=\"x\"]
+//a[ b = 'x\"y' ]|//a[b='x\"y']
+/a[b= ' x ' ]|/a[b=\" x \"]
+/a[b=']/[']|/a[b=\"]/[\"]
+/a[b='USER']|/a[b=\"USER\"]
+/a[b='007']|/a[b=\"007\"]";
+
+#[test]
+fn a_path_is_written_without_what_its_spelling_adds(rt: HostRuntime) -> Result<(), Fail> {
+    for row in CANONICAL.lines() {
+        assert!(rt; is_written_as_told(rt.alloc(), row)?, "{row}");
     }
     Ok(())
 }
