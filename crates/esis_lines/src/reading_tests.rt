@@ -2,19 +2,8 @@
 
 use super::*;
 use acl_outside::{MemSink, MemSource, SureSource};
-use std::alloc::{AllocError, Global};
+use std::alloc::Global;
 use std::test::Fail;
-
-// The parts, each so many times.
-fn repeated(alloc: Global, parts: &[(&[u8], u32)]) -> Result<Vec<u8>, AllocError> {
-    let mut bytes = Vec::new(alloc);
-    for (part, count) in parts {
-        for _ in 0..*count {
-            bytes.extend_from_slice(part)?;
-        }
-    }
-    Ok(bytes)
-}
 
 // Whether the document that is read has this text.
 fn is_read_as(alloc: Global, bytes: &[u8], text: &[u8]) -> Result<bool, Fail> {
@@ -33,129 +22,123 @@ fn fault(alloc: Global, bytes: Vec<u8>) -> Result<String, Fail> {
     }
 }
 
+// A document, lines that are refused, and their fault. A `;` stands for a line feed.
+const LINES: &str = "(a;)a;||no root
+(a;)a;|?(a;#)a;|no root
+(a;)a;|C;|no root
+(a;-xyz;)a;|xyz;|line 1: bad form
+(a;-hi;)a;|-hi;|line 1: unbalanced
+(a;-;)a;|(a;)a;-;|line 3: unbalanced
+(a;)a;|(a;|line 2: unbalanced
+(a;)a;|(a;)b;|line 2: unbalanced
+(ab;)ab;|(ab;)a;|line 2: unbalanced
+(a;(b;)b;)a;|(a;(b;)a;|line 3: unbalanced
+(a;(b;)b;)a;|(a;)a;(b|line 3: second root
+Ax A;(a;)a;|(a;)a;Ax A|line 3: second root
+(_;)_;|(;);|line 1: bad form
+(a1;)a1;|(1a;)1a;|line 1: bad form
+(a-.;)a-.;|(-;)-;|line 1: bad form
+(a;-;)a;|(a;;)a;|line 2: bad form
+(a;)a;|(a;)a;;|line 3: bad form
+(a;-\r;)a;|(a\r;)a\r;|line 1: bad form
+(a;-;-;)a;|(a;-;-;|line 4: unbalanced
+(a;-Nx;)a;|(a;Nx|line 2: kind 78 is unsupported
+(a;-&;)a;|(a;&;|line 2: kind 38 is unsupported
+Ax T ;(a;)a;|Ax  T;(a;)a;|line 1: bad form
+Ax IMPLIED;(a;)a;|Ax;(a;)a;|line 1: bad form
+Ax T 1;(a;)a;|Ax t 1;(a;)a;|line 1: bad form
+Ax A 1;Ax A 2;(a;)a;|Ax A;A;|line 2: bad form
+(b;Ax A;(a;)a;)b;|(b;Ax A;)b|line 3: unbalanced
+(b;-1;)b;|(b;Ax A;-1;)b;|line 3: unbalanced
+Ax A;(a;)a;|Ax A;|line 2: unbalanced";
+
+// Whether a row is told, whose fields have `|` between them.
+fn is_told(alloc: Global, row: &str) -> Result<bool, Fail> {
+    let (text, rest) = row.split_once('|').ok_or("one field")?;
+    let (refused, want) = rest.split_once('|').ok_or("two fields")?;
+    let text = text.replace(alloc, ';', "\n")?;
+    let refused = refused.replace(alloc, ';', "\n")?;
+    are_told(alloc, text.as_bytes(), refused.as_bytes(), want)
+}
+
+// Whether a document is read, also without its last line feed, and other bytes are refused with a fault.
+fn are_told(alloc: Global, text: &[u8], refused: &[u8], want: &str) -> Result<bool, Fail> {
+    let front = &text[..text.len().saturating_sub(1)];
+    let refused = fault(alloc, Vec::from_slice(alloc, refused)?)?;
+    Ok(
+        is_read_as(alloc, text, text)?
+            && is_read_as(alloc, front, text)?
+            && refused.as_str() == want,
+    )
+}
+
 // Each refused form, and before it the nearest one that is taken.
 #[test]
 fn lines_are_refused_and_the_nearest_others_taken(rt: HostRuntime) -> Result<(), Fail> {
-    let cases: [(&[u8], &[u8], &str); 31] = [
-        (b"(a\n)a\n", b"", "no root"),
-        (b"(a\n)a\n", b"?(a\n#)a\n", "no root"),
-        (b"(a\n)a\n", b"C\n", "no root"),
-        (b"(a\n-xyz\n)a\n", b"xyz\n", "line 1: bad form"),
-        (b"(a\n-hi\n)a\n", b"-hi\n", "line 1: unbalanced"),
-        (b"(a\n-\n)a\n", b"(a\n)a\n-\n", "line 3: unbalanced"),
-        (b"(a\n)a\n", b"(a\n", "line 2: unbalanced"),
-        (b"(a\n)a\n", b"(a\n)b\n", "line 2: unbalanced"),
-        (b"(ab\n)ab\n", b"(ab\n)a\n", "line 2: unbalanced"),
-        (b"(a\n(b\n)b\n)a\n", b"(a\n(b\n)a\n", "line 3: unbalanced"),
-        (b"(a\n(b\n)b\n)a\n", b"(a\n)a\n(b", "line 3: second root"),
-        (b"Ax A\n(a\n)a\n", b"(a\n)a\nAx A", "line 3: second root"),
-        (b"(_\n)_\n", b"(\n)\n", "line 1: bad form"),
-        (b"(a1\n)a1\n", b"(1a\n)1a\n", "line 1: bad form"),
-        (b"(a-.\n)a-.\n", b"(-\n)-\n", "line 1: bad form"),
+    for row in LINES.lines() {
+        assert!(rt; is_told(rt.alloc(), row)?, "{row}");
+    }
+    // Bytes that are no text.
+    let cases: [(&[u8], &[u8], &str); 3] = [
         (b"(:\x80_\n):\x80_\n", b"(a\n):\x80 \n", "line 2: bad form"),
-        (b"(a\n-\n)a\n", b"(a\n\n)a\n", "line 2: bad form"),
-        (b"(a\n)a\n", b"(a\n)a\n\n", "line 3: bad form"),
         (b"(a\n-\x00\xff\r\n)a\n", b"(a\n-\n\xff", "line 3: bad form"),
-        (b"(a\n-\r\n)a\n", b"(a\r\n)a\r\n", "line 1: bad form"),
-        (b"(a\n-\n-\n)a\n", b"(a\n-\n-\n", "line 4: unbalanced"),
-        (
-            b"(a\n-Nx\n)a\n",
-            b"(a\nNx",
-            "line 2: kind 78 is unsupported",
-        ),
-        (
-            b"(a\n-&\n)a\n",
-            b"(a\n&\n",
-            "line 2: kind 38 is unsupported",
-        ),
         (
             b"Ax T \x00\xff \r\n(a\n)a\n",
             b"AT \xff\n",
             "line 1: bad form",
         ),
-        (b"Ax T \n(a\n)a\n", b"Ax  T\n(a\n)a\n", "line 1: bad form"),
-        (b"Ax IMPLIED\n(a\n)a\n", b"Ax\n(a\n)a\n", "line 1: bad form"),
-        (b"Ax T 1\n(a\n)a\n", b"Ax t 1\n(a\n)a\n", "line 1: bad form"),
-        (
-            b"Ax A 1\nAx A 2\n(a\n)a\n",
-            b"Ax A\nA\n",
-            "line 2: bad form",
-        ),
-        (
-            b"(b\nAx A\n(a\n)a\n)b\n",
-            b"(b\nAx A\n)b",
-            "line 3: unbalanced",
-        ),
-        (b"(b\n-1\n)b\n", b"(b\nAx A\n-1\n)b\n", "line 3: unbalanced"),
-        (b"Ax A\n(a\n)a\n", b"Ax A\n", "line 2: unbalanced"),
     ];
-    for (row, (text, refused, want)) in cases.into_iter().enumerate() {
-        let front = &text[..text.len().saturating_sub(1)];
-        assert!(rt; is_read_as(rt.alloc(), text, text)?, "row {row}");
-        assert!(rt;
-            is_read_as(rt.alloc(), front, text)?,
-            "row {row}, without the last line feed"
-        );
-        let refused = Vec::from_slice(rt.alloc(), refused)?;
-        assert_eq!(rt; fault(rt.alloc(), refused)?.as_str(), want, "row {row}");
+    for (text, refused, want) in cases {
+        assert!(rt; are_told(rt.alloc(), text, refused, want)?, "{want}");
     }
     Ok(())
 }
 
-// Each two causes that one line can have. The line is a byte, so many bytes 'n' and what is behind them.
+// The bytes of parts with `|` between them: each is a text, `*` and how often it stands there; `;` is a line feed.
+fn made_of(alloc: Global, parts: &str) -> Result<Vec<u8>, Fail> {
+    let mut bytes = Vec::new(alloc);
+    for part in parts.split('|') {
+        let (text, count) = part.rsplit_once('*').ok_or("no count")?;
+        let text = text.replace(alloc, ';', "\n")?;
+        bytes.extend_from_slice(text.repeat(alloc, count.parse()?)?.as_bytes())?;
+    }
+    Ok(bytes)
+}
+
+// Whether the bytes of the parts in a row have the fault before them, or none where there is nothing.
+fn has_its_fault(alloc: Global, row: &str) -> Result<bool, Fail> {
+    let (want, parts) = row.split_once('|').ok_or("no parts")?;
+    Ok(fault(alloc, made_of(alloc, parts)?)?.as_str() == want)
+}
+
+// Each two causes that one line can have: the one that is named, and the line behind others.
+const CAUSES: &str = "line 4: bad form|(a;)a;C;*1|N*1
+line 4: bad form|(a;)a;C;*1|(*1|n*256
+line 4: bad form|(a;)a;C;*1|(*1|n*1
+line 4: bad form|(a;)a;C;*1|)*1|n*1
+line 4: bad form|(a;)a;C;*1|#*1|n*1
+line 4: bad form|(a;)a;C;*1|C*1
+line 1: bad form|(*1|n*256| *1
+line 1: bad form|A*1|n*256| a*1
+line 3: bad form|(a;)a;*1|(*1|n*1| *1
+line 1: bad form|)*1|n*1| *1
+line 2: bad form|(a;*1|C*1|n*1
+line 256: bad form|(a;*255|(*1|n*1| *1
+line 65536: bad form|Ax A;*65535|A*1|n*1
+line 3: name too long|(a;)a;*1|(*1|n*256
+line 3: name too long|(a;)a;*1|A*1|n*256| A*1
+line 1: name too long|)*1|n*256
+line 256: name too long|(a;*255|(*1|n*256
+line 65536: name too long|Ax A;*65535|A*1|n*256| A*1
+line 256: too deep|(a;*255|(*1|n*255
+line 65536: too many attributes|Ax A;*65535|A*1|n*255| A*1
+line 65536: unbalanced|Ax A;*65535|)*1|n*255
+line 65536: unbalanced|Ax A;*65534|A*1|n*255| A*1";
+
 #[test]
 fn of_two_causes_the_first_of_the_table_is_named(rt: HostRuntime) -> Result<(), Fail> {
-    let root: &[u8] = b"(a\n)a\n";
-    let closed: &[u8] = b"(a\n)a\nC\n";
-    let cases: [(&[u8], u32, &[u8], u32, &[u8], &str); 22] = [
-        (closed, 1, b"N", 0, b"", "line 4: bad form"),
-        (closed, 1, b"(", 256, b"", "line 4: bad form"),
-        (closed, 1, b"(", 1, b"", "line 4: bad form"),
-        (closed, 1, b")", 1, b"", "line 4: bad form"),
-        (closed, 1, b"#", 1, b"", "line 4: bad form"),
-        (closed, 1, b"C", 0, b"", "line 4: bad form"),
-        (b"", 0, b"(", 256, b" ", "line 1: bad form"),
-        (b"", 0, b"A", 256, b" a", "line 1: bad form"),
-        (root, 1, b"(", 1, b" ", "line 3: bad form"),
-        (b"", 0, b")", 1, b" ", "line 1: bad form"),
-        (b"(a\n", 1, b"C", 1, b"", "line 2: bad form"),
-        (b"(a\n", 255, b"(", 1, b" ", "line 256: bad form"),
-        (b"Ax A\n", 65_535, b"A", 1, b"", "line 65536: bad form"),
-        (root, 1, b"(", 256, b"", "line 3: name too long"),
-        (root, 1, b"A", 256, b" A", "line 3: name too long"),
-        (b"", 0, b")", 256, b"", "line 1: name too long"),
-        (b"(a\n", 255, b"(", 256, b"", "line 256: name too long"),
-        (
-            b"Ax A\n",
-            65_535,
-            b"A",
-            256,
-            b" A",
-            "line 65536: name too long",
-        ),
-        (b"(a\n", 255, b"(", 255, b"", "line 256: too deep"),
-        (
-            b"Ax A\n",
-            65_535,
-            b"A",
-            255,
-            b" A",
-            "line 65536: too many attributes",
-        ),
-        (b"Ax A\n", 65_535, b")", 255, b"", "line 65536: unbalanced"),
-        (
-            b"Ax A\n",
-            65_534,
-            b"A",
-            255,
-            b" A",
-            "line 65536: unbalanced",
-        ),
-    ];
-    for (row, (before, count, kind, length, behind, want)) in cases.into_iter().enumerate() {
-        let parts = [(before, count), (kind, 1), (b"n", length), (behind, 1)];
-        let bytes = repeated(rt.alloc(), &parts)?;
-        assert_eq!(rt; fault(rt.alloc(), bytes)?.as_str(), want, "row {row}");
+    for row in CAUSES.lines() {
+        assert!(rt; has_its_fault(rt.alloc(), row)?, "{row}");
     }
     Ok(())
 }
@@ -188,41 +171,24 @@ fn lines_of_no_document_are_passed_by(rt: HostRuntime) -> Result<(), Fail> {
     Ok(())
 }
 
-// A document of so many parts, and why it is refused.
+// Why a document of so many parts is refused, or nothing where it is taken.
+const LIMITS: &str = "|(a;*254|)a;*254
+|(a;*255|)a;*255
+line 256: too deep|(a;*256
+|A*1|n*255| T;(a;)a;*1
+line 1: name too long|(*1|n*256|;*1
+|Ax T;*65535|(a;)a;*1
+line 65536: too many attributes|Ax T;*65536
+|(a;-*1|12345678*4194303|;)a;*1
+more than 33554432 bytes|(a;-0*1|12345678*4194303|;)a;*1";
+
 #[test]
 fn depth_names_attributes_and_bytes_have_limits(rt: HostRuntime) -> Result<(), Fail> {
-    let cases: [([(&[u8], u32); 3], &str); 9] = [
-        ([(b"(a\n", 254), (b")a\n", 254), (b"", 0)], ""),
-        ([(b"(a\n", 255), (b")a\n", 255), (b"", 0)], ""),
-        ([(b"(a\n", 256), (b"", 0), (b"", 0)], "line 256: too deep"),
-        ([(b"A", 1), (b"n", 255), (b" T\n(a\n)a\n", 1)], ""),
-        (
-            [(b"(", 1), (b"n", 256), (b"\n", 1)],
-            "line 1: name too long",
-        ),
-        ([(b"Ax T\n", 65_535), (b"(a\n)a\n", 1), (b"", 0)], ""),
-        (
-            [(b"Ax T\n", 65_536), (b"", 0), (b"", 0)],
-            "line 65536: too many attributes",
-        ),
-        (
-            [(b"(a\n-", 1), (b"12345678", 4_194_303), (b"\n)a\n", 1)],
-            "",
-        ),
-        (
-            [(b"(a\n-0", 1), (b"12345678", 4_194_303), (b"\n)a\n", 1)],
-            "more than 33554432 bytes",
-        ),
-    ];
-    for (row, (parts, want)) in cases.into_iter().enumerate() {
-        let bytes = repeated(rt.alloc(), &parts)?;
-        assert_eq!(rt; fault(rt.alloc(), bytes)?.as_str(), want, "row {row}");
+    for row in LIMITS.lines() {
+        assert!(rt; has_its_fault(rt.alloc(), row)?, "{row}");
     }
-    let parts: [(&[u8], u32); 3] = [(b"(a\n", 1), (b"-\n-\n-\n-\n-\n", 1_677_721), (b")a\n", 1)];
-    let doc = read_doc(
-        rt.alloc(),
-        &mut SureSource::new(repeated(rt.alloc(), &parts)?),
-    )?;
+    let bytes = made_of(rt.alloc(), "(a;*1|-;-;-;-;-;*1677721|)a;*1")?;
+    let doc = read_doc(rt.alloc(), &mut SureSource::new(bytes))?;
     assert_eq!(rt; doc.root.items.len(), 8_388_605);
     Ok(())
 }
