@@ -1,5 +1,5 @@
 -- How the reading of a file ends, by its start, its stream and its document.
-use Rattle.std.proofs.Common.{◌≡◌, ℕ, Bool, true, false, ◌||◌, List, [], ◌∷◌, ◌++◌, map, refl, sym, ap, ◌∙◌, subst, ◌⊎◌, inl, inr, append_assoc, true≢false}
+use Rattle.std.proofs.Common.{◌≡◌, ℕ, Bool, true, false, ◌||◌, List, [], ◌∷◌, ◌++◌, length, map, refl, sym, ap, ◌∙◌, subst, ◌⊎◌, inl, inr, arith, append_assoc, true≢false}
 use Rattle.std.specs.Prelude.{Option, Some, None, nat_eq, Ok, Err, IfSome}
 use Rattle.std.specs.List.{list_all, list_any}
 use Rattle.std.proofs.lemmas.List.Folds.{list_any-append}
@@ -13,21 +13,27 @@ use Rattle.merkle_chunks.specs.File.{HasRoot, document_header, file_root}
 use Rattle.merkle_chunks.specs.HeaderBytes.{fragment_count}
 use Rattle.merkle_chunks.specs.declared.header.Header.{Header}
 use Rattle.skip_decode.specs.StreamOf.{IsStreamOf}
-use Rattle.skip_decode.proofs.Documents.{one_document}
 use Rattle.fragment_open.specs.Asks.{ask_of, top_ask}
+use Rattle.fragment_open.specs.Checked.{AreOpeningsChecked}
 use Rattle.fragment_open.specs.Clash.{reads_clash}
+use Rattle.fragment_open.specs.Plain.{plain_served}
 use Rattle.fragment_open.specs.Settled.{is_start, root_by, since}
 use Rattle.fragment_open.specs.Starting.{HoldsDocument, IsNotStarted, IsStartCause, IsStarted, IsUnder}
 use Rattle.fragment_open.specs.Told.{Told, is_whole}
+use Rattle.fragment_open.proofs.CheckedLemmas.{unopened-folds, unrefused-checked}
 use Rattle.fragment_open.proofs.ClimbLemmas.{Told-weaker}
 use Rattle.fragment_open.proofs.KeyLemmas.{either}
 use Rattle.fragment_open.proofs.SinceLemmas.{since-start}
+use Rattle.fragment_open.proofs.StartLemmas.{no_openings}
 use Rattle.file_reading.specs.declared.fault.FileFault.{FileFault}
 use Rattle.file_reading.specs.declared.fault.FileFault.TheVariants.{NoMemory, Refused}
 use Rattle.tag_dictionary.specs.declared.fault.DictFault.{DictFault}
 use Rattle.tag_dictionary.specs.declared.fault.DictFault.TheVariants as index
 use Rattle.file_reading.specs.FileFaults.{fault_of_index}
-use Rattle.file_reading.specs.FileEnds.{FileEnds, IsFileCause, IsStreamFault, IsStreamRead}
+use Rattle.file_reading.specs.WholeFile.{IsWholeFile}
+use Rattle.file_reading.specs.FileEnds.{FileEnds, IsFileCause, IsStreamFault, IsStreamRead, StreamShown}
+use Rattle.file_reading.proofs.ShownLemmas.{length_one}
+use Rattle.file_reading.proofs.WholeLemmas.{one_of}
 
 -- ---- a start that was refused
 
@@ -36,8 +42,9 @@ cause_of root key BadHeader reads c = c
 cause_of root key (WrongRoot want made) reads c = c
 cause_of root key (WrongKey want made) reads c = c
 cause_of root key (StoreShort to) reads c = c.0
-cause_of root key StoreFault reads (inl none) = ap (list_all is_whole) none
-cause_of root key StoreFault reads (inr read) = read.1.all_whole
+cause_of root key StoreFault reads (inl none) = (ap (list_all is_whole) none, inr (unopened-folds reads (no_openings reads (omega (arith, ap length none)))))
+cause_of root key StoreFault reads (inr read) =
+    (read.1.all_whole, inr (unopened-folds reads (no_openings reads (omega (arith, length_one root key reads read.1.asked)))))
 cause_of root key (BadFragment index want made) reads c = absurd c
 cause_of root key BadIndex reads c = absurd c
 
@@ -47,15 +54,16 @@ not_started-ends root key fault a b told =
 
 -- ---- a stream that was not read
 
-pub stream_fault-ends : (root key : List ℕ) (fault : FileFault) (reads : List StoreRead) → IsStreamFault fault reads → FileEnds (Err fault) root key reads
-stream_fault-ends root key NoMemory reads f = f
-stream_fault-ends root key (Refused (StoreShort to)) reads f = f
-stream_fault-ends root key (Refused StoreFault) reads f = f
-stream_fault-ends root key (Refused (BadFragment index want made)) reads f = f
-stream_fault-ends root key (Refused BadHeader) reads f = absurd f.1
-stream_fault-ends root key (Refused (WrongRoot want made)) reads f = absurd f.1
-stream_fault-ends root key (Refused (WrongKey want made)) reads f = absurd f.1
-stream_fault-ends root key (Refused BadIndex) reads f = absurd f.1
+pub stream_fault-ends : (root key : List ℕ) (fault : FileFault) (h : Header) (top taken : List ℕ) (reads : List StoreRead) → IsStreamFault fault reads → StreamShown (Err fault) h top taken reads
+    → FileEnds (Err fault) root key reads
+stream_fault-ends root key NoMemory h top taken reads f s = f
+stream_fault-ends root key (Refused (StoreShort to)) h top taken reads f s = f
+stream_fault-ends root key (Refused StoreFault) h top taken reads f s = (f.0, (f.1, s))
+stream_fault-ends root key (Refused (BadFragment index want made)) h top taken reads f s = f
+stream_fault-ends root key (Refused BadHeader) h top taken reads f s = absurd f.1
+stream_fault-ends root key (Refused (WrongRoot want made)) h top taken reads f s = absurd f.1
+stream_fault-ends root key (Refused (WrongKey want made)) h top taken reads f s = absurd f.1
+stream_fault-ends root key (Refused BadIndex) h top taken reads f s = absurd f.1
 
 -- ---- a stream that was read
 
@@ -71,22 +79,27 @@ stream_of d key h stream document defined same bytes = record {
   depth = ap (λ (g : Header). g.depth) same;
 }
 
-pub one_of : (d e : Doc) (stream : List ℕ) (h : Header) → IsStreamOf d stream h → IsStreamOf e stream h → d ≡ e
-one_of d e stream h one other =
-    one_document d e one.document other.document one.within other.within (sym one.bytes ∙ other.bytes) (sym one.dictionary ∙ other.dictionary) (sym one.tree ∙ other.tree)
-
-module _ (h : Header) (root key stream : List ℕ) (reads : List StoreRead) (read : IsStreamRead h root key stream reads) where
+module _ (h : Header) (root key stream : List ℕ) (reads : List StoreRead) (read : IsStreamRead h root key stream reads) (top : List ℕ)
+    (whole_file : IsWholeFile root key h top reads) (plain_is : stream ≡ plain_served key reads) where
   pub document-ends : (doc : Doc) → IsStreamOf doc stream h → FileEnds (Ok doc) root key reads
   document-ends doc is = record {
     regular = read.regular;
     all_whole = read.all_whole;
+    shows = record { header = h; top = top; whole_file = whole_file; stream = subst (λ (l : List ℕ). IsStreamOf doc l h) plain_is is };
     gives = λ d document has none.
         let same = read.gives d document has none in
         one_of doc d stream h is (stream_of d key h stream document has.defined same.0 same.1);
   }
 
   pub index-ends : ((d : Doc) → ¬ IsStreamOf d stream h) → FileEnds (Err (Refused BadIndex)) root key reads
-  index-ends bad = (read.regular, (read.all_whole, λ d document has. found d document has (either (reads_clash reads d key))))
+  index-ends bad = (
+    read.regular,
+    (
+      read.all_whole,
+      λ d document has. found d document has (either (reads_clash reads d key)),
+      record { header = h; top = top; whole_file = whole_file; no_stream = λ d is. bad d (subst (λ (l : List ℕ). IsStreamOf d l h) (sym plain_is) is) },
+    ),
+  )
     where
       found : (d : Doc) → is_document d ≡ true → HasRoot d key root → (reads_clash reads d key ≡ true) ⊎ (reads_clash reads d key ≡ false) → reads_clash reads d key ≡ true
       found d document has (inl e) = e
@@ -143,20 +156,42 @@ still_some : {X : Type 0} (o : Option X) (P Q : X → Type 0) → IfSome o P →
 still_some None P Q p more = tt
 still_some (Some x) P Q p more = more x p
 
-pub stream_fault_told : (root key : List ℕ) (fault : FileFault) (served : Option (List StoreRead)) → IfSome served (λ all. IsStreamFault fault (since all)) → IfSome served (λ all. FileEnds (Err fault) root key (since all))
-stream_fault_told root key fault served ends =
-    still_some served (λ all. IsStreamFault fault (since all)) (λ all. FileEnds (Err fault) root key (since all)) ends (λ all e. stream_fault-ends root key fault (since all) e)
+both : {X : Type 0} (o : Option X) (P Q : X → Type 0) → IfSome o P → IfSome o Q → IfSome o (λ x. P x × Q x)
+both None P Q p q = tt
+both (Some x) P Q p q = (p, q)
+
+pub stream_fault_told : (root key : List ℕ) (fault : FileFault) (h : Header) (top taken : List ℕ) (served : Option (List StoreRead)) → IfSome served (λ all. IsStreamFault fault (since all))
+    → IfSome served (λ all. StreamShown (Err fault) h top taken (since all)) → IfSome served (λ all. FileEnds (Err fault) root key (since all))
+stream_fault_told root key fault h top taken served ends shown =
+    still_some served (λ all. IsStreamFault fault (since all) × StreamShown (Err fault) h top taken (since all)) (λ all. FileEnds (Err fault) root key (since all))
+    (both served (λ all. IsStreamFault fault (since all)) (λ all. StreamShown (Err fault) h top taken (since all)) ends shown)
+    (λ all e. stream_fault-ends root key fault h top taken (since all) e.0 e.1)
+
+-- what is shown of a stream that was read
+abbrev IsShownRead : Header → List ℕ → List ℕ → List ℕ → List ℕ → List StoreRead → Type 0
+IsShownRead h top root key stream reads = IsStreamRead h root key stream reads × (IsWholeFile root key h top reads × (stream ≡ plain_served key reads))
+
+-- where no fragment was refused, that is so of each answer
+pub decoded_checked : (served : Option (List StoreRead)) (refused : Bool) → IfSome served (λ all. AreOpeningsChecked false (since all)) → IfSome served (λ all. AreOpeningsChecked refused (since all))
+decoded_checked served refused checked =
+    still_some served (λ all. AreOpeningsChecked false (since all)) (λ all. AreOpeningsChecked refused (since all)) checked (λ all c. unrefused-checked (since all) refused c)
 
 module _ (root key : List ℕ) (h : Header) (top taken : List ℕ) (under : IsUnder root key h top taken) where
   -- a stream that was read is one under the root and the key that were given
-  read_under : (stream : List ℕ) (served : Option (List StoreRead)) → IfSome served (λ all. IsStreamRead h (root_by h top) taken stream (since all)) → IfSome served (λ all. IsStreamRead h root key stream (since all))
+  read_under : (stream : List ℕ) (served : Option (List StoreRead)) → IfSome served (λ all. IsShownRead h top (root_by h top) taken stream (since all)) → IfSome served (λ all. IsShownRead h top root key stream (since all))
   read_under stream served read =
-      let P : List ℕ → Type 0 = λ r. IfSome served (λ all. IsStreamRead h r taken stream (since all)) in
-      let Q : List ℕ → Type 0 = λ k. IfSome served (λ all. IsStreamRead h root k stream (since all)) in
+      let P : List ℕ → Type 0 = λ r. IfSome served (λ all. IsShownRead h top r taken stream (since all)) in
+      let Q : List ℕ → Type 0 = λ k. IfSome served (λ all. IsShownRead h top root k stream (since all)) in
       subst Q under.key_is (subst P under.root_is read)
 
   module _ (stream bytes : List ℕ) (g : Header) (bytes_are : bytes ≡ stream) (header_is : g ≡ h) (served : Option (List StoreRead))
-      (read : IfSome served (λ all. IsStreamRead h (root_by h top) taken stream (since all))) where
+      (read : IfSome served (λ all. IsStreamRead h (root_by h top) taken stream (since all)))
+      (shown : IfSome served (λ all. IsWholeFile (root_by h top) taken h top (since all) × (stream ≡ plain_served taken (since all)))) where
+    both_under : IfSome served (λ all. IsShownRead h top root key stream (since all))
+    both_under =
+        read_under stream served
+        (both served (λ all. IsStreamRead h (root_by h top) taken stream (since all)) (λ all. IsWholeFile (root_by h top) taken h top (since all) × (stream ≡ plain_served taken (since all))) read shown)
+
     of_stream : (d : Doc) → IsStreamOf d bytes g → IsStreamOf d stream h
     of_stream d is =
         let P : Header → Type 0 = λ x. IsStreamOf d stream x in
@@ -169,16 +204,16 @@ module _ (root key : List ℕ) (h : Header) (top taken : List ℕ) (under : IsUn
 
     pub document_told : (doc : Doc) → IsStreamOf doc bytes g → IfSome served (λ all. FileEnds (Ok doc) root key (since all))
     document_told doc is =
-        still_some served (λ all. IsStreamRead h root key stream (since all)) (λ all. FileEnds (Ok doc) root key (since all)) (read_under stream served read)
-        (λ all r. document-ends h root key stream (since all) r doc (of_stream doc is))
+        still_some served (λ all. IsShownRead h top root key stream (since all)) (λ all. FileEnds (Ok doc) root key (since all)) both_under
+        (λ all r. document-ends h root key stream (since all) r.0 top r.1.0 r.1.1 doc (of_stream doc is))
 
     pub index_told : (fault : DictFault) → (fault ≡ index.BadIndex → (d : Doc) → ¬ IsStreamOf d bytes g) → IfSome served (λ all. FileEnds (Err (fault_of_index fault)) root key (since all))
     index_told index.BadIndex bad =
-        still_some served (λ all. IsStreamRead h root key stream (since all)) (λ all. FileEnds (Err (Refused BadIndex)) root key (since all)) (read_under stream served read)
-        (λ all r. index-ends h root key stream (since all) r (λ d is. bad refl d (of_bytes d is)))
+        still_some served (λ all. IsShownRead h top root key stream (since all)) (λ all. FileEnds (Err (Refused BadIndex)) root key (since all)) both_under
+        (λ all r. index-ends h root key stream (since all) r.0 top r.1.0 r.1.1 (λ d is. bad refl d (of_bytes d is)))
     index_told index.NoMemory bad =
-        still_some served (λ all. IsStreamRead h root key stream (since all)) (λ all. FileEnds (Err NoMemory) root key (since all)) (read_under stream served read)
-        (λ all r. memory-ends h root key stream (since all) r)
+        still_some served (λ all. IsShownRead h top root key stream (since all)) (λ all. FileEnds (Err NoMemory) root key (since all)) both_under
+        (λ all r. memory-ends h root key stream (since all) r.0 top r.1.0 r.1.1)
 
   -- ---- what a store gives that holds the file
 

@@ -2,4 +2,6 @@ pub mod ClashGrowth
 pub mod StreamLemmas
 pub mod ShownLemmas
 pub mod OrderLemmas
+pub mod ReadingLemmas
+pub mod WholeLemmas
 pub mod FileLemmas

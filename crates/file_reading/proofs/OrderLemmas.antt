@@ -20,13 +20,14 @@ use Rattle.fragment_open.proofs.ClimbLemmas.{Told-weaker}
 use Rattle.fragment_open.proofs.StartLemmas.{no_openings}
 use Rattle.file_reading.specs.declared.fault.FileFault.{FileFault}
 use Rattle.file_reading.specs.declared.fault.FileFault.TheVariants.{Refused}
-use Rattle.file_reading.specs.FileEnds.{GoesOnInOrder, OpensInOrder, numbers_below}
+use Rattle.file_reading.specs.WholeFile.{numbers_below}
+use Rattle.file_reading.specs.FileEnds.{GoesOnInOrder, OpensInOrder}
 use Rattle.file_reading.proofs.ShownLemmas.{length_one, length_two}
 use Rattle.file_reading.proofs.StreamLemmas.{of_start}
 
 -- ---- a start that was refused opened none
 
-few_reads : (root key : List ℕ) (fault : ReadFault) (reads : List StoreRead) → IsStartCause root key fault reads → length reads ≤ 2
+pub few_reads : (root key : List ℕ) (fault : ReadFault) (reads : List StoreRead) → IsStartCause root key fault reads → length reads ≤ 2
 few_reads root key BadHeader reads c = omega (arith, length_one root key reads c.0)
 few_reads root key (StoreShort to) reads c = by c.1
   where
@@ -100,7 +101,7 @@ whole_order value start now same kept fault quiet count a c all is p = by a c (o
 
 -- ---- by an opener that opened none before
 
-nothing_kept : (n : ℕ) (os : List Opening) → IsKept n None os → os ≡ []
+pub nothing_kept : (n : ℕ) (os : List Opening) → IsKept n None os → os ≡ []
 nothing_kept n [] is = refl
 nothing_kept n (o ∷ os) is = absurd is
 

@@ -31,7 +31,7 @@ use Rattle.file_reading.specs.declared.fault.FileFault.TheVariants.{Refused}
 use Rattle.file_reading.specs.FileEnds.{IsRefusedWhereShown, IsShown, first_short}
 use Rattle.file_reading.proofs.StreamLemmas.{of_start}
 
-no_value : {A : Type 0} (o : Option A) (x : A) → o ≡ None → o ≡ Some x → ⊥
+pub no_value : {A : Type 0} (o : Option A) (x : A) → o ≡ None → o ≡ Some x → ⊥
 no_value o x none some = true≢false (sym (ap is_some (sym none ∙ some)))
 
 -- ---- the first read that came short

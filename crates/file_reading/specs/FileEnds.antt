@@ -1,5 +1,5 @@
 -- How the reading of a whole file ends, by the reads that its store served. This project's own.
-use Rattle.std.specs.Prelude.{◌≡◌, ◌≢◌, ℕ, zero, suc, ◌+◌, ◌*◌, true, false, if◌then◌else◌, is_some, Result, Ok, Err, Option, Some, None, IfSome, option_map, option_and_then, List, [], ◌∷◌, ◌++◌, length, take, Vec}
+use Rattle.std.specs.Prelude.{◌≡◌, ◌≢◌, ◌⊎◌, ℕ, ◌+◌, ◌*◌, ◌<◌, Bool, true, false, if◌then◌else◌, is_some, Result, Ok, Err, Option, Some, None, IfSome, option_map, option_and_then, List, [], ◌∷◌, ◌++◌, length, take, Vec}
 use Rattle.std.specs.declared.alloc.Global.{Global}
 use Rattle.std.specs.List.{list_all, slice_get}
 use Rattle.sha2.specs.Sha256.{sha256}
@@ -11,16 +11,19 @@ use Rattle.acl_outside.specs.declared.read_fault.ReadFault.{ReadFault}
 use Rattle.acl_outside.specs.declared.read_fault.ReadFault.TheVariants.{BadFragment, BadHeader, BadIndex, StoreFault, StoreShort, WrongKey, WrongRoot}
 use Rattle.merkle_chunks.specs.File.{HasRoot, document_header, file_root, key_check}
 use Rattle.merkle_chunks.specs.declared.header.Header.{Header}
+use Rattle.fragment_open.specs.Checked.{AreChecked, refuses_fragment}
 use Rattle.fragment_open.specs.Clash.{reads_clash}
 use Rattle.fragment_open.specs.Held.{IsQuietElse, IsStoreFault}
 use Rattle.fragment_open.specs.Hashed.{folded, wanted}
 use Rattle.fragment_open.specs.Openings.{indexes}
+use Rattle.fragment_open.specs.Plain.{plain_served}
 use Rattle.fragment_open.specs.Served.{IsRegular, fragments_served, header_served, root_served, whole}
 use Rattle.fragment_open.specs.Settled.{IsFetchCause, root_by, since}
 use Rattle.fragment_open.specs.Starting.{HoldsDocument, IsStartCause}
 use Rattle.fragment_open.specs.Told.{IsCut, is_whole}
 use Rattle.file_reading.specs.declared.fault.FileFault.{FileFault}
 use Rattle.file_reading.specs.declared.fault.FileFault.TheVariants.{NoMemory, Refused}
+use Rattle.file_reading.specs.WholeFile.{IsUnfinished, IsWholeFile, ShowsDocument, ShowsNoDocument, numbers_below}
 
 -- ---- documents that a file may be of
 
@@ -38,25 +41,27 @@ OfHeldDocument held root key holds =
 
 -- ---- the whole reading
 
--- Reads ended in a document: they are the first of those that an opener makes and came whole, and
--- the document is each one whose encoding has the root, unless there is a clash with that one.
+-- Reads ended in a document: they are the first of those that an opener makes and came whole, they
+-- show it, and it is each one whose encoding has the root, unless there is a clash with that one.
 pub record IsFileRead (root key : List ℕ) (doc : Doc) (reads : List StoreRead) : Type 0 where
   pub regular : IsRegular reads
   pub all_whole : list_all is_whole reads ≡ true
+  pub shows : ShowsDocument root key doc reads
   pub gives : OfEachDocument root key reads (λ d. doc ≡ d)
 
--- why a file was refused, by its reads: one came short; all came whole and the store failed; all
--- came whole, and the newest opening folds to another digest than the wanted one; all came whole,
--- and each document whose encoding has the root has a clash with them; or it was refused by its
--- header, root or key
+-- why a file was refused, by its reads: one came short; all came whole, are unfinished, and the store
+-- failed; all came whole, and the newest opening folds to another digest than the wanted one; all
+-- came whole and show no document, and each document whose encoding has the root has a clash with
+-- them; or it was refused by its header, root or key
 abbrev pub IsFileCause : List ℕ → List ℕ → ReadFault → List StoreRead → Type 0
 IsFileCause root key (StoreShort to) reads = IsCut to reads
-IsFileCause root key StoreFault reads = list_all is_whole reads ≡ true
+IsFileCause root key StoreFault reads = (list_all is_whole reads ≡ true) × IsUnfinished reads
 IsFileCause root key (BadFragment index want made) reads =
     IsFetchCause index (BadFragment index want made) reads
 IsFileCause root key BadIndex reads =
     (list_all is_whole reads ≡ true)
     × ((d : Doc) → is_document d ≡ true → HasRoot d key root → reads_clash reads d key ≡ true)
+    × ShowsNoDocument root key reads
 IsFileCause root key BadHeader reads = IsStartCause root key BadHeader reads
 IsFileCause root key (WrongRoot want made) reads = IsStartCause root key (WrongRoot want made) reads
 IsFileCause root key (WrongKey want made) reads = IsStartCause root key (WrongKey want made) reads
@@ -67,7 +72,7 @@ FileEnds (Ok doc) root key reads = IsFileRead root key doc reads
 FileEnds (Err (Refused fault)) root key reads = IsRegular reads × IsFileCause root key fault reads
 FileEnds (Err NoMemory) root key reads = IsRegular reads
 
--- ---- what the reads show
+-- ---- what is answered where the reads show why
 
 -- the place at which the first read that came short ended, where there is one
 abbrev pub first_short : List StoreRead → Option ℕ
@@ -78,7 +83,7 @@ first_short (read ∷ reads) =
 -- what reads alone show of a file under a root and a key: what was served as a header is none; the
 -- root string served has another digest than the root; it has that one, and the key another check
 -- than the header; a read came short; or the newest opening folds to another digest than the wanted
--- one
+-- one; of BadIndex, behind whose last read memory is taken, ShowsNoDocument says so
 abbrev pub IsShown : List ℕ → List ℕ → ReadFault → List StoreRead → Type 0
 IsShown root key BadHeader reads =
     (is_some (option_and_then (whole 64) (slice_get reads 0)) ≡ true)
@@ -101,12 +106,42 @@ abbrev pub IsRefusedWhereShown : {T : Type 0} → Result T FileFault → List �
 IsRefusedWhereShown result root key reads =
     (fault : ReadFault) → IsShown root key fault reads → result ≡ Err (Refused fault)
 
--- ---- the order of the fragments
+-- a file was refused by BadIndex, or memory was wanting
+abbrev pub IsBadIndexOrNoMemory : {T : Type 0} → Result T FileFault → Type 0
+IsBadIndexOrNoMemory (Ok value) = ⊥
+IsBadIndexOrNoMemory (Err NoMemory) = Unit {0}
+IsBadIndexOrNoMemory (Err (Refused BadIndex)) = Unit {0}
+IsBadIndexOrNoMemory (Err (Refused BadHeader)) = ⊥
+IsBadIndexOrNoMemory (Err (Refused (WrongRoot want made))) = ⊥
+IsBadIndexOrNoMemory (Err (Refused (WrongKey want made))) = ⊥
+IsBadIndexOrNoMemory (Err (Refused (StoreShort to))) = ⊥
+IsBadIndexOrNoMemory (Err (Refused StoreFault)) = ⊥
+IsBadIndexOrNoMemory (Err (Refused (BadFragment index want made))) = ⊥
 
--- the numbers below a number, the highest first
-abbrev pub numbers_below : ℕ → List ℕ
-numbers_below zero = []
-numbers_below (suc n) = n ∷ numbers_below n
+-- the answer is this document, or memory was wanting
+abbrev pub IsDocumentOrNoMemory : Result Doc FileFault → Doc → Type 0
+IsDocumentOrNoMemory (Ok doc) d = doc ≡ d
+IsDocumentOrNoMemory (Err NoMemory) d = Unit {0}
+IsDocumentOrNoMemory (Err (Refused fault)) d = ⊥
+
+-- Where the reads show that their file is of no document, it is refused for that; where memory is
+-- wanting, that may be answered.
+abbrev pub IsRefusedWithoutDocument : {T : Type 0} → Result T FileFault → List ℕ → List ℕ → List StoreRead → Type 0
+IsRefusedWithoutDocument result root key reads =
+    ShowsNoDocument root key reads → IsBadIndexOrNoMemory result
+
+-- Where the reads show a document, it is the answer; where memory is wanting, that may be answered.
+abbrev pub IsGivenWhereShown : Result Doc FileFault → List ℕ → List ℕ → List StoreRead → Type 0
+IsGivenWhereShown result root key reads =
+    (d : Doc) → ShowsDocument root key d reads → IsDocumentOrNoMemory result d
+
+-- whether an answer is the refusal of a fragment, by what its opening folds to
+abbrev pub is_bad_fragment : {T : Type 0} → Result T FileFault → Bool
+is_bad_fragment (Ok value) = false
+is_bad_fragment (Err (Refused fault)) = refuses_fragment fault
+is_bad_fragment (Err NoMemory) = false
+
+-- ---- the order of the fragments
 
 -- the fragments were opened in order from 0, each once: all of them after Ok, and else the first ones
 abbrev pub OpensInOrder : {T : Type 0} → Result T FileFault → List StoreRead → Type 0
@@ -188,3 +223,42 @@ OpensBehind (Err fault) before reads =
 abbrev pub GoesOnInOrder : {T : Type 0} → Result T FileFault → Option (List StoreRead) → Option (List StoreRead) → Type 0
 GoesOnInOrder result before after =
     IfSome before (λ old. IfSome after (λ new. OpensBehind result (indexes (since old)) (since new)))
+
+-- what an opener's further reads are of the file: after Ok they were checked, and the stream is the
+-- plain bytes behind those of before; where the store failed, they opened fewer fragments than the
+-- header served has, or the newest opening didn't come to its goal
+abbrev pub ReadsBehind : Result (Vec ℕ Global) FileFault → Header → List ℕ → List ℕ → List StoreRead → List StoreRead → Type 0
+ReadsBehind (Ok stream) header top key before reads =
+    AreChecked (root_by header top) header top reads
+    × (plain_served key reads ≡ plain_served key before ++ stream.items)
+ReadsBehind (Err (Refused StoreFault)) header top key before reads =
+    (length (indexes reads) < fragments_served reads + length (indexes before))
+    ⊎ (folded sha256 reads ≡ None)
+ReadsBehind (Err (Refused BadHeader)) header top key before reads = Unit {0}
+ReadsBehind (Err (Refused (WrongRoot want made))) header top key before reads = Unit {0}
+ReadsBehind (Err (Refused (WrongKey want made))) header top key before reads = Unit {0}
+ReadsBehind (Err (Refused (StoreShort to))) header top key before reads = Unit {0}
+ReadsBehind (Err (Refused (BadFragment index want made))) header top key before reads = Unit {0}
+ReadsBehind (Err (Refused BadIndex)) header top key before reads = Unit {0}
+ReadsBehind (Err NoMemory) header top key before reads = Unit {0}
+
+-- this is so of what an opener read since its start, where its store tells what it served
+abbrev pub GoesOnReading : Result (Vec ℕ Global) FileFault → Header → List ℕ → List ℕ → Option (List StoreRead) → Option (List StoreRead) → Type 0
+GoesOnReading result header top key before after =
+    IfSome before (λ old. IfSome after (λ new.
+    ReadsBehind result header top key (since old) (since new)))
+
+-- what reads show of a stream: after Ok they show the whole file, and the stream is its plain bytes;
+-- where the store failed, they are unfinished
+abbrev pub StreamShown : Result (Vec ℕ Global) FileFault → Header → List ℕ → List ℕ → List StoreRead → Type 0
+StreamShown (Ok stream) header top key reads =
+    IsWholeFile (root_by header top) key header top reads
+    × (stream.items ≡ plain_served key reads)
+StreamShown (Err (Refused StoreFault)) header top key reads = IsUnfinished reads
+StreamShown (Err (Refused BadHeader)) header top key reads = Unit {0}
+StreamShown (Err (Refused (WrongRoot want made))) header top key reads = Unit {0}
+StreamShown (Err (Refused (WrongKey want made))) header top key reads = Unit {0}
+StreamShown (Err (Refused (StoreShort to))) header top key reads = Unit {0}
+StreamShown (Err (Refused (BadFragment index want made))) header top key reads = Unit {0}
+StreamShown (Err (Refused BadIndex)) header top key reads = Unit {0}
+StreamShown (Err NoMemory) header top key reads = Unit {0}

@@ -4,8 +4,9 @@
 ghost use Rattle.std.specs.Prelude.{◌≡◌, true, IfOk, OnOk, IfErr, MatchResult};
 ghost use Rattle.acl_model.specs.Document.{is_document};
 ghost use Rattle.acl_outside.specs.Outside.{NotFallen, Rose};
+ghost use Rattle.fragment_open.specs.Checked.{AreOpeningsChecked};
 ghost use Rattle.fragment_open.specs.Told.{Told};
-ghost use Rattle.file_reading.specs.FileEnds.{FileEnds, IsHonestFault, IsQuietFault, IsRefusedWhereShown, IsStoreFailure, OfHeldDocument, OpensInOrder};
+ghost use Rattle.file_reading.specs.FileEnds.{FileEnds, IsGivenWhereShown, IsHonestFault, IsQuietFault, IsRefusedWhereShown, IsRefusedWithoutDocument, IsStoreFailure, OfHeldDocument, OpensInOrder, is_bad_fragment};
 
 use crate::fault::FileFault;
 use crate::stream::read_stream;
@@ -16,8 +17,8 @@ use skip_decode::decode_all;
 use std::alloc::Global;
 
 /// Reads the document of a file under a root and a key. A store that holds it gives it. Another
-/// store gives it or is refused, unless two different strings of one digest are met; of what is
-/// given under a root which no encoding has, nothing is said but that it is a document. It is
+/// store gives it or is refused, unless two different strings of one digest are met. Whatever the
+/// root, its stream is what the fragments served are once they are checked and deciphered. It is
 /// refused as [`begin`] refuses it, then by its fragments, from 0 on, and last by `BadIndex`. The
 /// file's stream is read into one allocation.
 pub fn read_file<S: Store>(
@@ -30,6 +31,12 @@ pub fn read_file<S: Store>(
     ensures document { IfOk result (λ doc. is_document doc ≡ true) }
     ensures exact { Told (S.served store.old) (S.served store.new)
         (λ reads. IsRefusedWhereShown result root key reads) }
+    ensures shown_index { Told (S.served store.old) (S.served store.new)
+        (λ reads. IsRefusedWithoutDocument result root key reads) }
+    ensures decoded { Told (S.served store.old) (S.served store.new)
+        (λ reads. IsGivenWhereShown result root key reads) }
+    ensures checked { Told (S.served store.old) (S.served store.new)
+        (λ reads. AreOpeningsChecked (is_bad_fragment result) reads) }
     ensures in_order { Told (S.served store.old) (S.served store.new) (OpensInOrder result) }
     ensures held { OfHeldDocument (S.holds store.old) root key (λ d. MatchResult result
         (λ doc. doc ≡ d)

@@ -3,9 +3,10 @@
 ghost use Rattle.std.specs.Prelude.{◌≡◌, None, IfSome, OnOk, IfErr, false};
 ghost use Rattle.std.specs.List.{list_any};
 ghost use Rattle.acl_outside.specs.Outside.{NotFallen, Rose};
+ghost use Rattle.fragment_open.specs.Checked.{AreOpeningsChecked};
 ghost use Rattle.fragment_open.specs.Told.{Told};
 ghost use Rattle.fragment_open.specs.Settled.{AreHeld, Settled, is_start, root_by, since};
-ghost use Rattle.file_reading.specs.FileEnds.{GoesOnInOrder, HeldEnds, IsQuietFault, IsRefusedWhereShown, IsStoreFailure, OfHeldDocument, OpensInOrder, StreamEnds};
+ghost use Rattle.file_reading.specs.FileEnds.{GoesOnInOrder, GoesOnReading, HeldEnds, IsQuietFault, IsRefusedWhereShown, IsStoreFailure, OfHeldDocument, OpensInOrder, StreamEnds, StreamShown, is_bad_fragment};
 
 use crate::fault::FileFault;
 use acl_outside::Store;
@@ -26,6 +27,11 @@ fn fetch_all<S: Store>(alloc: Global, opener: &mut Opener<'_, S>) -> Result<Vec<
     ensures exact { IfSome (S.served opener.new.store.now) (λ all. IsRefusedWhereShown result
         (root_by opener.old.head.header opener.old.head.top) opener.old.head.key (since all)) }
     ensures in_order { GoesOnInOrder result
+        (S.served opener.old.store.now) (S.served opener.new.store.now) }
+    ensures checked { IfSome (S.served opener.new.store.now) (λ all.
+        AreOpeningsChecked (is_bad_fragment result) (since all)) }
+    ensures reading { GoesOnReading result
+        opener.old.head.header opener.old.head.top opener.old.head.key
         (S.served opener.old.store.now) (S.served opener.new.store.now) }
     ensures held { OfHeldDocument (S.holds opener.old.store.now)
         (root_by opener.old.head.header opener.old.head.top) opener.old.head.key (HeldEnds result) }
@@ -64,6 +70,10 @@ pub(crate) fn read_stream<S: Store>(
     ensures exact { IfSome (S.served store.new) (λ all. IsRefusedWhereShown result
         (root_by head.header head.top) head.key (since all)) }
     ensures in_order { IfSome (S.served store.new) (λ all. OpensInOrder result (since all)) }
+    ensures checked { IfSome (S.served store.new) (λ all.
+        AreOpeningsChecked (is_bad_fragment result) (since all)) }
+    ensures shown { IfSome (S.served store.new) (λ all.
+        StreamShown result head.header head.top head.key (since all)) }
     ensures held { OfHeldDocument (S.holds store.old)
         (root_by head.header head.top) head.key (HeldEnds result) }
     ensures constant { S.holds store.new ≡ S.holds store.old }

@@ -3,11 +3,14 @@ use Rattle.std.proofs.lemmas.Result.{err_from_is_err_and}
 use Rattle.std.specs.Prelude.{Ok, Err, Vec}
 use Rattle.std.specs.declared.alloc.Global.{Global}
 use Rattle.acl_model.specs.declared.document.Doc.{Doc}
-use Rattle.file_reading.specs.FileEnds.{FileEnds, IsRefusedWhereShown, OpensInOrder}
+use Rattle.fragment_open.specs.Checked.{AreOpeningsChecked}
+use Rattle.file_reading.specs.declared.fault.FileFault.TheVariants.{Refused}
+use Rattle.file_reading.specs.FileEnds.{FileEnds, IsRefusedWhereShown, OpensInOrder, is_bad_fragment}
 use Rattle.file_reading.specs.FileFaults.{fault_of_index}
-use Rattle.file_reading.proofs.FileLemmas.{document_held, document_told, holds_so, index_told, root_so, stream_fault_told, told-since}
+use Rattle.file_reading.proofs.FileLemmas.{decoded_checked, document_held, document_told, holds_so, index_told, not_started-ends, root_so, stream_fault_told, told-since}
 use Rattle.file_reading.proofs.OrderLemmas.{err_order, not_started_order, ok_order}
 use Rattle.file_reading.proofs.ShownLemmas.{err_exact, not_started_exact, ok_exact}
+use Rattle.file_reading.proofs.WholeLemmas.{given_told, no_document_told, not_started_checked}
 use Rattle.file_reading.proofs.file.read_file.Goals as goal
 
 pub returns-in_err-stream-clause-told : goal.returns-in_err-stream-clause-told
@@ -16,7 +19,7 @@ returns-in_err-stream-clause-told g c =
     let head = c.in_ok-head.head in
     rw (p.1, p.2) (told-since head.header head.top (g.S.Store.served c.args.store.now) (g.S.Store.served c.begin.new.store) (g.S.Store.served c.read_stream.new.store)
     (FileEnds (Err c.in_err-stream.field-0.0) c.args.root c.args.key) c.in_ok-head.ensures.told c.in_err-stream.ensures.grown
-    (stream_fault_told c.args.root c.args.key c.in_err-stream.field-0.0 (g.S.Store.served c.read_stream.new.store) c.in_err-stream.ensures.ends))
+    (stream_fault_told c.args.root c.args.key c.in_err-stream.field-0.0 head.header head.top head.key (g.S.Store.served c.read_stream.new.store) c.in_err-stream.ensures.ends c.in_err-stream.ensures.shown))
 
 pub returns-in_err-decode_all-clause-told : goal.returns-in_err-decode_all-clause-told
 returns-in_err-decode_all-clause-told g c =
@@ -25,7 +28,7 @@ returns-in_err-decode_all-clause-told g c =
     rw (p.1, p.2) (told-since head.header head.top (g.S.Store.served c.args.store.now) (g.S.Store.served c.begin.new.store) (g.S.Store.served c.read_stream.new.store)
     (FileEnds (Err (fault_of_index c.in_err-decode_all.field-0.0)) c.args.root c.args.key) c.in_ok-head.ensures.told c.in_ok-stream.ensures.grown
     (index_told c.args.root c.args.key head.header head.top head.key c.in_ok-head.ensures.right c.in_ok-stream.stream.items c.as_slice.result.now c.header.result.now c.as_slice.ensures.value c.header.ensures
-    (g.S.Store.served c.read_stream.new.store) c.in_ok-stream.ensures.ends c.in_err-decode_all.field-0.0 (λ same. c.in_err-decode_all.ensures.bad (ap Err same))))
+    (g.S.Store.served c.read_stream.new.store) c.in_ok-stream.ensures.ends c.in_ok-stream.ensures.shown c.in_err-decode_all.field-0.0 (λ same. c.in_err-decode_all.ensures.bad (ap Err same))))
 
 pub returns-clause-told : goal.returns-clause-told
 returns-clause-told g c =
@@ -33,7 +36,7 @@ returns-clause-told g c =
     told-since head.header head.top (g.S.Store.served c.args.store.now) (g.S.Store.served c.begin.new.store) (g.S.Store.served c.read_stream.new.store)
     (FileEnds (Ok c.in_ok-decode_all.field-0) c.args.root c.args.key) c.in_ok-head.ensures.told c.in_ok-stream.ensures.grown
     (document_told c.args.root c.args.key head.header head.top head.key c.in_ok-head.ensures.right c.in_ok-stream.stream.items c.as_slice.result.now c.header.result.now c.as_slice.ensures.value c.header.ensures
-    (g.S.Store.served c.read_stream.new.store) c.in_ok-stream.ensures.ends c.in_ok-decode_all.field-0 c.in_ok-decode_all.ensures.document)
+    (g.S.Store.served c.read_stream.new.store) c.in_ok-stream.ensures.ends c.in_ok-stream.ensures.shown c.in_ok-decode_all.field-0 c.in_ok-decode_all.ensures.document)
 
 pub returns-clause-held : goal.returns-clause-held
 returns-clause-held g c = λ d is root.
@@ -105,3 +108,68 @@ returns-clause-in_order g c =
     told-since head.header head.top (g.S.Store.served c.args.store.now) (g.S.Store.served c.begin.new.store) (g.S.Store.served c.read_stream.new.store)
     (OpensInOrder (Ok c.in_ok-decode_all.field-0)) c.in_ok-head.ensures.told c.in_ok-stream.ensures.grown
     (ok_order (Vec ℕ Global) c.in_ok-stream.stream Doc (Ok c.in_ok-decode_all.field-0) (g.S.Store.served c.read_stream.new.store) c.in_ok-stream.ensures.in_order)
+
+-- ---- what the reads show of the document is answered
+
+pub returns-in_err-head-clause-shown_index : goal.returns-in_err-head-clause-shown_index
+returns-in_err-head-clause-shown_index g c =
+    let p = err_from_is_err_and c.from_residual.result c.from_residual.ensures.1 in
+    rw (p.1, p.2) (no_document_told c.args.root c.args.key (Err (Refused c.in_err-head.field-0.0)) (g.S.Store.served c.args.store.now) (g.S.Store.served c.begin.new.store)
+    (not_started-ends c.args.root c.args.key c.in_err-head.field-0.0 (g.S.Store.served c.args.store.now) (g.S.Store.served c.begin.new.store) c.in_err-head.ensures.told))
+
+pub returns-in_err-stream-clause-shown_index : goal.returns-in_err-stream-clause-shown_index
+returns-in_err-stream-clause-shown_index g c =
+    no_document_told c.args.root c.args.key c.from_residual-in_err-stream.result (g.S.Store.served c.args.store.now) (g.S.Store.served c.read_stream.new.store) (returns-in_err-stream-clause-told g c)
+
+pub returns-in_err-decode_all-clause-shown_index : goal.returns-in_err-decode_all-clause-shown_index
+returns-in_err-decode_all-clause-shown_index g c =
+    no_document_told c.args.root c.args.key c.from_residual-in_err-decode_all.result (g.S.Store.served c.args.store.now) (g.S.Store.served c.read_stream.new.store) (returns-in_err-decode_all-clause-told g c)
+
+pub returns-clause-shown_index : goal.returns-clause-shown_index
+returns-clause-shown_index g c =
+    no_document_told c.args.root c.args.key (Ok c.in_ok-decode_all.field-0) (g.S.Store.served c.args.store.now) (g.S.Store.served c.read_stream.new.store) (returns-clause-told g c)
+
+pub returns-in_err-head-clause-decoded : goal.returns-in_err-head-clause-decoded
+returns-in_err-head-clause-decoded g c =
+    let p = err_from_is_err_and c.from_residual.result c.from_residual.ensures.1 in
+    rw (p.1, p.2) (given_told c.args.root c.args.key (Err (Refused c.in_err-head.field-0.0)) (g.S.Store.served c.args.store.now) (g.S.Store.served c.begin.new.store)
+    (not_started-ends c.args.root c.args.key c.in_err-head.field-0.0 (g.S.Store.served c.args.store.now) (g.S.Store.served c.begin.new.store) c.in_err-head.ensures.told))
+
+pub returns-in_err-stream-clause-decoded : goal.returns-in_err-stream-clause-decoded
+returns-in_err-stream-clause-decoded g c =
+    given_told c.args.root c.args.key c.from_residual-in_err-stream.result (g.S.Store.served c.args.store.now) (g.S.Store.served c.read_stream.new.store) (returns-in_err-stream-clause-told g c)
+
+pub returns-in_err-decode_all-clause-decoded : goal.returns-in_err-decode_all-clause-decoded
+returns-in_err-decode_all-clause-decoded g c =
+    given_told c.args.root c.args.key c.from_residual-in_err-decode_all.result (g.S.Store.served c.args.store.now) (g.S.Store.served c.read_stream.new.store) (returns-in_err-decode_all-clause-told g c)
+
+pub returns-clause-decoded : goal.returns-clause-decoded
+returns-clause-decoded g c =
+    given_told c.args.root c.args.key (Ok c.in_ok-decode_all.field-0) (g.S.Store.served c.args.store.now) (g.S.Store.served c.read_stream.new.store) (returns-clause-told g c)
+
+-- ---- each opening was checked
+
+pub returns-in_err-head-clause-checked : goal.returns-in_err-head-clause-checked
+returns-in_err-head-clause-checked g c =
+    not_started_checked c.args.root c.args.key c.in_err-head.field-0.0 (g.S.Store.served c.args.store.now) (g.S.Store.served c.begin.new.store) c.in_err-head.ensures.told c.from_residual.result
+
+pub returns-in_err-stream-clause-checked : goal.returns-in_err-stream-clause-checked
+returns-in_err-stream-clause-checked g c =
+    let p = err_from_is_err_and c.from_residual-in_err-stream.result c.from_residual-in_err-stream.ensures.1 in
+    let head = c.in_ok-head.head in
+    rw (p.1, p.2) (told-since head.header head.top (g.S.Store.served c.args.store.now) (g.S.Store.served c.begin.new.store) (g.S.Store.served c.read_stream.new.store)
+    (λ reads. AreOpeningsChecked (is_bad_fragment {T = Doc} (Err c.in_err-stream.field-0.0)) reads) c.in_ok-head.ensures.told c.in_err-stream.ensures.grown c.in_err-stream.ensures.checked)
+
+pub returns-in_err-decode_all-clause-checked : goal.returns-in_err-decode_all-clause-checked
+returns-in_err-decode_all-clause-checked g c =
+    let head = c.in_ok-head.head in
+    told-since head.header head.top (g.S.Store.served c.args.store.now) (g.S.Store.served c.begin.new.store) (g.S.Store.served c.read_stream.new.store)
+    (λ reads. AreOpeningsChecked (is_bad_fragment c.from_residual-in_err-decode_all.result) reads) c.in_ok-head.ensures.told c.in_ok-stream.ensures.grown
+    (decoded_checked (g.S.Store.served c.read_stream.new.store) (is_bad_fragment c.from_residual-in_err-decode_all.result) c.in_ok-stream.ensures.checked)
+
+pub returns-clause-checked : goal.returns-clause-checked
+returns-clause-checked g c =
+    let head = c.in_ok-head.head in
+    told-since head.header head.top (g.S.Store.served c.args.store.now) (g.S.Store.served c.begin.new.store) (g.S.Store.served c.read_stream.new.store)
+    (λ reads. AreOpeningsChecked (is_bad_fragment (Ok c.in_ok-decode_all.field-0)) reads) c.in_ok-head.ensures.told c.in_ok-stream.ensures.grown
+    (decoded_checked (g.S.Store.served c.read_stream.new.store) (is_bad_fragment (Ok c.in_ok-decode_all.field-0)) c.in_ok-stream.ensures.checked)

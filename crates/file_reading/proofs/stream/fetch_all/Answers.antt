@@ -1,10 +1,11 @@
-use Rattle.std.proofs.Common.{◌≡◌, ℕ, ◌∙◌, ◌+◌, ◌*◌, List, take, refl, sym, subst, arith}
+use Rattle.std.proofs.Common.{◌≡◌, ℕ, ◌∙◌, ◌+◌, ◌*◌, List, false, take, refl, sym, subst, arith}
 use Rattle.std.proofs.lemmas.Result.{err_from_is_err_and}
 use Rattle.std.specs.Prelude.{IfSome, Ok}
 use Rattle.acl_model.specs.Stream.{plain}
 use Rattle.fragment_open.specs.Settled.{root_by, since}
 use Rattle.file_reading.specs.declared.fault.FileFault.TheVariants.{NoMemory, Refused}
-use Rattle.file_reading.specs.FileEnds.{AreFirst, IsHonestFault, OfHeldDocument}
+use Rattle.file_reading.specs.FileEnds.{AreFirst, IsHonestFault, OfHeldDocument, is_bad_fragment}
+use Rattle.file_reading.proofs.ReadingLemmas.{HasPlain, fault_checked, fetch_reading, good_checked, plain_one_more, stopped_reading, whole_reading}
 use Rattle.file_reading.proofs.StreamLemmas.{ended_told, fetch_fault, first_told, grown-more, held_ended, held_fault, held_more, regular_told, stream_told}
 use Rattle.file_reading.proofs.OrderLemmas.{none_yet, one_less, one_more, stopped_order, whole_order}
 use Rattle.file_reading.proofs.ShownLemmas.{fetch_exact, good_exact}
@@ -30,6 +31,18 @@ returns-in_err-stream-clause-in_order g c =
     let p = err_from_is_err_and c.from_residual.result c.from_residual.ensures.1 in
     let served = g.S.Store.served c.args.opener.now.store.now in
     stopped_order 0 served served (none_yet served) c.from_residual.result p.0 p.1
+
+pub returns-in_err-stream-clause-checked : goal.returns-in_err-stream-clause-checked
+returns-in_err-stream-clause-checked g c =
+    let opener = c.args.opener.now in
+    good_checked opener.head opener.head refl opener.kept opener.fault c.requires (g.S.Store.served opener.store.now) opener.settled (is_bad_fragment c.from_residual.result)
+
+pub returns-in_err-stream-clause-reading : goal.returns-in_err-stream-clause-reading
+returns-in_err-stream-clause-reading g c =
+    let p = err_from_is_err_and c.from_residual.result c.from_residual.ensures.1 in
+    let head = c.args.opener.now.head in
+    let served = g.S.Store.served c.args.opener.now.store.now in
+    stopped_reading head.header head.top head.key served served c.from_residual.result p.0 p.1 p.2
 
 -- ---- a fragment is refused
 
@@ -61,6 +74,21 @@ returns-in_err-fetch-clause-in_order g c =
     one_less (Unit {0}) c.in_err-fetch.field-0.0 c.loop-index.index (g.S.Store.served c.args.opener.now.store.now) (g.S.Store.served c.loop-index.opener.store.now) (g.S.Store.served c.fetch.new.self.store.now)
     c.loop-index.invariant.told c.loop-index.invariant.order (c.in_err-fetch.ensures.opens c.loop-index.invariant.fault) c.from_residual-in_err-fetch.result p.0 p.1
 
+pub returns-in_err-fetch-clause-checked : goal.returns-in_err-fetch-clause-checked
+returns-in_err-fetch-clause-checked g c =
+    let p = err_from_is_err_and c.from_residual-in_err-fetch.result c.from_residual-in_err-fetch.ensures.1 in
+    fault_checked c.in_err-fetch.field-0.0 (g.S.Store.served c.fetch.new.self.store.now) (c.in_err-fetch.ensures.checked c.loop-index.invariant.fault)
+    c.from_residual-in_err-fetch.result p.0 p.1 p.2
+
+pub returns-in_err-fetch-clause-reading : goal.returns-in_err-fetch-clause-reading
+returns-in_err-fetch-clause-reading g c =
+    let p = err_from_is_err_and c.from_residual-in_err-fetch.result c.from_residual-in_err-fetch.ensures.1 in
+    let inv = c.loop-index.invariant in
+    let old = c.loop-index.opener in
+    fetch_reading c.args.opener.now.head old.head inv.head old.kept old.fault inv.fault c.loop-index.index (omega (arith, c.loop-index-test.true, inv.count))
+    (g.S.Store.served c.args.opener.now.store.now) (g.S.Store.served old.store.now) (g.S.Store.served c.fetch.new.self.store.now) inv.told old.settled c.in_err-fetch.ensures.grown inv.order
+    c.in_err-fetch.field-0.0 (c.in_err-fetch.ensures.unopened inv.fault) c.from_residual-in_err-fetch.result p.0 p.1 p.2
+
 pub returns-in_err-fetch-clause-held : goal.returns-in_err-fetch-clause-held
 returns-in_err-fetch-clause-held g c = λ d is root.
     let p = err_from_is_err_and c.from_residual-in_err-fetch.result c.from_residual-in_err-fetch.ensures.1 in
@@ -91,6 +119,19 @@ returns-in_err-extend_from_slice-clause-in_order g c =
     stopped_order (c.loop-index.index + 1) a z (one_more c.in_ok-fetch.field-0 c.loop-index.index a b z c.loop-index.invariant.told c.loop-index.invariant.order (c.in_ok-fetch.ensures.opens c.loop-index.invariant.fault))
     c.from_residual-in_err-extend_from_slice.result p.0 p.1
 
+pub returns-in_err-extend_from_slice-clause-checked : goal.returns-in_err-extend_from_slice-clause-checked
+returns-in_err-extend_from_slice-clause-checked g c =
+    let new = c.fetch.new.self in
+    good_checked c.args.opener.now.head new.head (c.in_ok-fetch.ensures.same_head ∙ c.loop-index.invariant.head) new.kept new.fault c.in_ok-fetch.ensures.stays
+    (g.S.Store.served new.store.now) new.settled (is_bad_fragment c.from_residual-in_err-extend_from_slice.result)
+
+pub returns-in_err-extend_from_slice-clause-reading : goal.returns-in_err-extend_from_slice-clause-reading
+returns-in_err-extend_from_slice-clause-reading g c =
+    let p = err_from_is_err_and c.from_residual-in_err-extend_from_slice.result c.from_residual-in_err-extend_from_slice.ensures.1 in
+    let start = c.args.opener.now in
+    stopped_reading start.head.header start.head.top start.head.key (g.S.Store.served start.store.now) (g.S.Store.served c.fetch.new.self.store.now)
+    c.from_residual-in_err-extend_from_slice.result p.0 p.1 p.2
+
 -- ---- one fragment more
 
 pub loop-index-preserved : goal.loop-index-preserved
@@ -116,6 +157,10 @@ loop-index-preserved g c =
           (first_told start.head old.head inv.head old.kept (g.S.Store.served old.store.now) (g.S.Store.served new.store.now) old.fault inv.fault old.settled c.in_ok-fetch.ensures.grown
           (Unit {0}) c.in_ok-fetch.field-0 i stream fragment (omega (arith, c.loop-index-test.true, inv.count)) inv.first (c.in_ok-fetch.ensures.ends inv.fault));
       order = one_more c.in_ok-fetch.field-0 i (g.S.Store.served start.store.now) (g.S.Store.served old.store.now) (g.S.Store.served new.store.now) inv.told inv.order (c.in_ok-fetch.ensures.opens inv.fault);
+      plain_bytes = subst (λ (l : List ℕ). HasPlain start.head.key l (g.S.Store.served start.store.now) (g.S.Store.served new.store.now))
+          (sym c.in_ok-extend_from_slice.ensures.items)
+          (plain_one_more c.in_ok-fetch.field-0 start.head old.head inv.head stream fragment (g.S.Store.served start.store.now) (g.S.Store.served old.store.now) (g.S.Store.served new.store.now)
+          inv.told inv.plain_bytes (c.in_ok-fetch.ensures.plain inv.fault));
       held = subst (λ (l : List ℕ). OfHeldDocument (g.S.Store.holds start.store.now) (root_by start.head.header start.head.top) start.head.key (λ d. l ≡ take (256 * (i + 1)) (plain d)))
           (sym c.in_ok-extend_from_slice.ensures.items)
           (held_more start.head old.head inv.head old.kept (g.S.Store.holds start.store.now) (g.S.Store.holds old.store.now) inv.constant old.held i stream fragment
@@ -144,3 +189,15 @@ returns-clause-in_order g c =
     let inv = c.loop-index.invariant in
     whole_order c.loop-index.stream start.head opener.head inv.head opener.kept opener.fault inv.fault c.loop-index.index (g.S.Store.served start.store.now) (g.S.Store.served opener.store.now)
     (omega (arith, inv.count, c.loop-index-test.false, c.loop-index.auto.index-end)) opener.settled inv.order
+
+pub returns-clause-checked : goal.returns-clause-checked
+returns-clause-checked g c =
+    let opener = c.loop-index.opener in
+    good_checked c.args.opener.now.head opener.head c.loop-index.invariant.head opener.kept opener.fault c.loop-index.invariant.fault (g.S.Store.served opener.store.now) opener.settled false
+
+pub returns-clause-reading : goal.returns-clause-reading
+returns-clause-reading g c =
+    let start = c.args.opener.now in
+    let opener = c.loop-index.opener in
+    let inv = c.loop-index.invariant in
+    whole_reading start.head opener.head inv.head opener.kept opener.fault inv.fault c.loop-index.stream (g.S.Store.served start.store.now) (g.S.Store.served opener.store.now) opener.settled inv.plain_bytes

@@ -8,6 +8,7 @@ use Rattle.fragment_open.specs.Told.{Told}
 use Rattle.fragment_open.specs.Settled.{is_start, root_by, since}
 use Rattle.file_reading.specs.FileEnds.{AreFirst, OfHeldDocument}
 use Rattle.file_reading.proofs.OrderLemmas.{AreFirstBehind}
+use Rattle.file_reading.proofs.ReadingLemmas.{HasPlain}
 use Rattle.file_reading.proofs.stream.fetch_all.Given as goal
 
 -- The stream has the fragments so far, and the opener has refused none.
@@ -23,5 +24,6 @@ invariant-loop-index g l = record {
   quiet : g.S.Store.faults l.opener.store.now ≡ g.S.Store.faults l.fn.opener.store.now;
   first : IfSome (g.S.Store.served l.opener.store.now) (λ all. AreFirst (root_by l.fn.opener.head.header l.fn.opener.head.top) l.fn.opener.head.key l.index l.stream.items (since all));
   order : AreFirstBehind l.index (g.S.Store.served l.fn.opener.store.now) (g.S.Store.served l.opener.store.now);
+  plain_bytes : HasPlain l.fn.opener.head.key l.stream.items (g.S.Store.served l.fn.opener.store.now) (g.S.Store.served l.opener.store.now);
   held : OfHeldDocument (g.S.Store.holds l.fn.opener.store.now) (root_by l.fn.opener.head.header l.fn.opener.head.top) l.fn.opener.head.key (λ d. l.stream.items ≡ take (256 * l.index) (plain d));
 }
