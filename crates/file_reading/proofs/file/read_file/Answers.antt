@@ -13,6 +13,11 @@ use Rattle.file_reading.proofs.ShownLemmas.{err_exact, not_started_exact, ok_exa
 use Rattle.file_reading.proofs.WholeLemmas.{given_told, no_document_told, not_started_checked}
 use Rattle.file_reading.proofs.file.read_file.Goals as goal
 
+pub returns-in_err-head-clause-told : goal.returns-in_err-head-clause-told
+returns-in_err-head-clause-told g c =
+    let p = err_from_is_err_and c.from_residual.result c.from_residual.ensures.1 in
+    rw (p.1, p.2) (not_started-ends c.args.root c.args.key c.in_err-head.field-0.0 (g.S.Store.served c.args.store.now) (g.S.Store.served c.begin.new.store) c.in_err-head.ensures.told)
+
 pub returns-in_err-stream-clause-told : goal.returns-in_err-stream-clause-told
 returns-in_err-stream-clause-told g c =
     let p = err_from_is_err_and c.from_residual-in_err-stream.result c.from_residual-in_err-stream.ensures.1 in
