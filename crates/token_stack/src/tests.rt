@@ -58,6 +58,7 @@ fn tables_of(alloc: Global, names: &[&str], paths: &[&[(Axis, &str)]]) -> Result
 /// Opens elements with these tags, each in the one before.
 fn begin_all(tokens: &mut Tokens, tables: &Tables, tags: &[u16])
     requires tables { length tables.now.states ≡ tokens.old.states }
+    requires some { 1 ≤ length tokens.old.levels }
     requires room { length tokens.old.levels + length tags.now ≤ tokens.old.depth + 1 }
     ensures states { tokens.new.states ≡ tokens.old.states }
     ensures depth { tokens.new.depth ≡ tokens.old.depth }
