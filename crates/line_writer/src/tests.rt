@@ -1,0 +1,75 @@
+//! Each call once, beside the lines as the profile of the ESIS line form and the format of explanations spell them.
+
+use super::*;
+use acl_model::{Bytes, Path, Rule, Sequence, Sign};
+use acl_outside::{MemSink, write_piece};
+use std::test::Fail;
+
+#[test]
+fn a_document_is_written_line_by_line(rt: HostRuntime) -> Result<(), Fail> {
+    let alloc = rt.alloc();
+    let mut attributes = Vec::new(alloc);
+    attributes.push(Bytes::from_slice(alloc, b"Id CDATA f1")?)?;
+    attributes.push(Bytes::from_slice(alloc, b"Ward IMPLIED")?)?;
+    let mut sink = MemSink::new(alloc, 200, Vec::new(alloc))?;
+    write_attributes_and_start(attributes.as_slice(), b"Folder", &mut sink)?;
+    write_text(b"", &mut sink)?;
+    write_start(b"-", &mut sink)?;
+    write_attributes(attributes.as_slice(), &mut sink)?;
+    write_attribute(b"Unit CDATA ", &mut sink)?;
+    write_start(b"Age", &mut sink)?;
+    begin_text(&mut sink)?;
+    write_piece(&mut sink, b"2")?;
+    write_piece(&mut sink, b"1")?;
+    end_line(&mut sink)?;
+    write_end(b"Age", &mut sink)?;
+    write_end(b"-", &mut sink)?;
+    begin_attribute(&mut sink)?;
+    write_piece(&mut sink, b"Id CDATA f2")?;
+    end_line(&mut sink)?;
+    let lines =
+        "AId CDATA f1\nAWard IMPLIED\n(Folder\n-\n(-\nAId CDATA f1\nAWard IMPLIED\nAUnit CDATA \n(Age\n-21\n)Age\n)-\n\
+        AId CDATA f2\n";
+    assert_eq!(rt; str::from_utf8(sink.written())?, lines);
+    Ok(())
+}
+
+#[test]
+fn an_explanation_line_has_sign_rule_and_place(rt: HostRuntime) -> Result<(), Fail> {
+    let alloc = rt.alloc();
+    let id = Bytes::from_slice(alloc, b"R.1")?;
+    let steps = Sequence::new(alloc);
+    let rules = vec![in alloc;
+        Rule {
+            id,
+            sign: Sign::Grant,
+            path: Path { steps }
+        },
+    ]?;
+    let rows: [(Sign, Option<u16>, &[u64], &str); 4] = [
+        (Sign::Deny, None, &[], "- closed /\n"),
+        (Sign::Grant, Some(0), &[], "+ R.1 /\n"),
+        (Sign::Deny, Some(0), &[3], "- R.1 /3\n"),
+        (Sign::Grant, Some(0), &[1, 10, 2], "+ R.1 /1/10/2\n"),
+    ];
+    for (sign, number, place, line) in rows {
+        let word = rule_word(rules.as_slice(), number);
+        let mut sink = MemSink::new(alloc, 20, Vec::new(alloc))?;
+        write_explanation_line(sign, word, place, &mut sink)?;
+        assert_eq!(rt; str::from_utf8(sink.written())?, line);
+        let mut by_parts = MemSink::new(alloc, 20, Vec::new(alloc))?;
+        write_explanation_head(sign, word, &mut by_parts)?;
+        match place {
+            [] => write_place(&[], &mut by_parts)?,
+            [first, rest @ ..] => {
+                write_number(*first, &mut by_parts)?;
+                for number in rest {
+                    write_number(*number, &mut by_parts)?;
+                }
+            }
+        }
+        end_line(&mut by_parts)?;
+        assert_eq!(rt; by_parts.written(), sink.written(), "{line}");
+    }
+    Ok(())
+}
