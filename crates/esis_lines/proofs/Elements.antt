@@ -7,7 +7,7 @@ use Rattle.acl_model.specs.declared.document.Element.{Element}
 use Rattle.acl_model.proofs.TextEquations.{element_text_is}
 use Rattle.acl_outside.specs.Writing.{Writes}
 use Rattle.acl_outside.proofs.Remaining.{Remains-all, Remains-next, Writes-failed, Writes-rest}
-use Rattle.esis_lines.specs.Output.{start_text}
+use Rattle.line_writer.specs.Parts.{start_text}
 
 abbrev start_of : Element → List ℕ
 start_of e = start_text e.attributes e.name

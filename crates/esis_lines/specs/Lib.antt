@@ -4,5 +4,4 @@ pub mod DocumentText
 pub mod Input
 pub mod LineForms
 pub mod Machine
-pub mod Output
 pub mod Refusals

@@ -2,13 +2,12 @@
 //! document's text.
 ghost use Rattle.std.specs.Prelude.{map};
 ghost use Rattle.std.specs.List.{concat};
-ghost use Rattle.acl_model.specs.Ascii.{capital_a};
-ghost use Rattle.acl_model.specs.Text.{text, line, element_text, item_text};
+ghost use Rattle.acl_model.specs.Text.{text, element_text, item_text};
 ghost use Rattle.acl_outside.specs.Writing.{Writes};
-ghost use Rattle.esis_lines.specs.Output.{start_text};
 
-use acl_model::{Bytes, Doc, Element, Item};
-use acl_outside::{Failed, Sink, write_pieces};
+use acl_model::{Doc, Element, Item};
+use acl_outside::{Failed, Sink};
+use line_writer::{write_attributes_and_start, write_end, write_text};
 
 /// Writes the lines of a document. Where the sink fails, a front part of them was written, and nothing
 /// after the failure.
@@ -24,9 +23,9 @@ fn write_element<K: Sink>(element: &Element, sink: &mut K) -> Result<(), Failed>
     ensures written { Writes K.written K.missed K.settled K.faults
         result sink.old sink.new (element_text element.now) }
 {
-    write_start(element.attributes.as_slice(), element.name.as_slice(), sink)?;
+    write_attributes_and_start(element.attributes.as_slice(), element.name.as_slice(), sink)?;
     write_items(element.items.as_slice(), sink)?;
-    write_line(b')', element.name.as_slice(), sink)
+    write_end(element.name.as_slice(), sink)
 }
 
 #[cycle(tree)]
@@ -48,36 +47,7 @@ fn write_item<K: Sink>(item: &Item, sink: &mut K) -> Result<(), Failed>
         result sink.old sink.new (item_text item.now) }
 {
     match item {
-        Item::Text(bytes) => write_line(b'-', bytes.as_slice(), sink),
+        Item::Text(bytes) => write_text(bytes.as_slice(), sink),
         Item::Child(element) => write_element(element.get(), sink),
     }
-}
-
-// What stands before an element's items: its attributes, and then its start.
-#[tactic(auto, using(acl_outside::proofs::Remaining::chain))]
-fn write_start<K: Sink>(attributes: &[Bytes], name: &[u8], sink: &mut K) -> Result<(), Failed>
-    ensures written { Writes K.written K.missed K.settled K.faults
-        result sink.old sink.new (start_text attributes.now name.now) }
-{
-    write_attributes(attributes, sink)?;
-    write_line(b'(', name, sink)
-}
-
-#[tactic(auto, using(acl_outside::proofs::Remaining::chain))]
-fn write_attributes<K: Sink>(attributes: &[Bytes], sink: &mut K) -> Result<(), Failed>
-    ensures written { Writes K.written K.missed K.settled K.faults
-        result sink.old sink.new (concat (map (line capital_a) attributes.now)) }
-{
-    for attribute in attributes {
-        write_line(b'A', attribute.as_slice(), sink)?;
-    }
-    Ok(())
-}
-
-#[tactic(auto, using(acl_outside::proofs::Remaining::chain))]
-fn write_line<K: Sink>(kind: u8, argument: &[u8], sink: &mut K) -> Result<(), Failed>
-    ensures written { Writes K.written K.missed K.settled K.faults
-        result sink.old sink.new (line kind argument.now) }
-{
-    write_pieces(sink, &[&[kind], argument, b"\n"])
 }
