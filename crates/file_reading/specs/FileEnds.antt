@@ -83,7 +83,7 @@ first_short (read ∷ reads) =
 -- what reads alone show of a file under a root and a key: what was served as a header is none; the
 -- root string served has another digest than the root; it has that one, and the key another check
 -- than the header; a read came short; or the newest opening folds to another digest than the wanted
--- one; of BadIndex, behind whose last read memory is taken, ShowsNoDocument says so
+-- one
 abbrev pub IsShown : List ℕ → List ℕ → ReadFault → List StoreRead → Type 0
 IsShown root key BadHeader reads =
     (is_some (option_and_then (whole 64) (slice_get reads 0)) ≡ true)
@@ -101,7 +101,8 @@ IsShown root key (BadFragment index want made) reads =
 IsShown root key StoreFault reads = ⊥
 IsShown root key BadIndex reads = ⊥
 
--- Where the reads show why a file is to be refused, it is refused for that and nothing else.
+-- Where the reads show one of these, the file is refused for it and for nothing else. A failure of the store is shown by no
+-- read; for a file of no document there is `IsRefusedWithoutDocument`.
 abbrev pub IsRefusedWhereShown : {T : Type 0} → Result T FileFault → List ℕ → List ℕ → List StoreRead → Type 0
 IsRefusedWhereShown result root key reads =
     (fault : ReadFault) → IsShown root key fault reads → result ≡ Err (Refused fault)

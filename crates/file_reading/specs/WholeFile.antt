@@ -45,7 +45,7 @@ pub record ShowsNoDocument (root key : List ℕ) (reads : List StoreRead) : Type
   pub whole_file : IsWholeFile root key header top reads
   pub no_stream : (d : Doc) → ¬ IsStreamOf d (plain_served key reads) header
 
--- Reads are unfinished: they opened fewer fragments than the header served has, or the newest opening
--- didn't come to its goal.
+-- Reads are unfinished: they opened fewer fragments than the header served has, or none, or the newest
+-- opening didn't come to its goal.
 abbrev pub IsUnfinished : List StoreRead → Type 0
 IsUnfinished reads = (length (indexes reads) < fragments_served reads) ⊎ (folded sha256 reads ≡ None)
