@@ -2,7 +2,8 @@
 
 ghost use Rattle.std.specs.Prelude.{[], ◌∷◌, map};
 ghost use Rattle.std.specs.List.{concat};
-ghost use Rattle.acl_model.specs.Ascii.{capital_a, hyphen, left_parenthesis, right_parenthesis, line_feed};
+ghost use Rattle.acl_model.specs.Ascii.{capital_a, hyphen, line_feed};
+ghost use Rattle.acl_model.specs.Ascii.{left_parenthesis, right_parenthesis};
 ghost use Rattle.acl_model.specs.Text.{line};
 ghost use Rattle.acl_outside.specs.Writing.{Writes};
 ghost use Rattle.line_writer.specs.Parts.{start_text};

@@ -1,5 +1,5 @@
-//! The lines of an explanation: the sign, the rule's id or `closed`, and the place. A place is a slice of numbers, or is
-//! written number by number, as it is found.
+//! The lines of an explanation: the sign, the rule's id or `closed`, and the place. A place is a
+//! slice of numbers, or is written number by number.
 
 ghost use Rattle.std.specs.Prelude.{◌≡◌, decimal, map, ◌∷◌};
 ghost use Rattle.std.specs.List.{concat};
@@ -13,7 +13,8 @@ use acl_model::{Rule, Sign};
 use acl_outside::{Failed, Sink, write_piece, write_pieces};
 use itoa::Buffer;
 
-/// Writes the line of an element of this place and sign. The word is the id of the rule that decides, or `closed`.
+/// Writes the line of an element of this place and sign. The word is the id of the rule that
+/// decides, or `closed`.
 pub fn write_explanation_line<K: Sink>(
     sign: Sign,
     word: &[u8],

@@ -1,5 +1,4 @@
-//! Writes the lines of a document or a view, and of an explanation, to a sink. A line is written whole or, where it is
-//! long or in pieces, by its parts.
+//! Writes the lines of a document, a view or an explanation to a sink, whole or by their parts.
 #![tactic(auto)]
 
 mod document_lines;

@@ -1,4 +1,4 @@
-//! Each call once, beside the lines as the profile of the ESIS line form and the format of explanations spell them.
+//! Each call once, beside the lines as this project's formats spell them.
 
 use super::*;
 use acl_model::{Bytes, Path, Rule, Sequence, Sign};
@@ -28,8 +28,8 @@ fn a_document_is_written_line_by_line(rt: HostRuntime) -> Result<(), Fail> {
     write_piece(&mut sink, b"Id CDATA f2")?;
     end_line(&mut sink)?;
     let lines =
-        "AId CDATA f1\nAWard IMPLIED\n(Folder\n-\n(-\nAId CDATA f1\nAWard IMPLIED\nAUnit CDATA \n(Age\n-21\n)Age\n)-\n\
-        AId CDATA f2\n";
+        "AId CDATA f1\nAWard IMPLIED\n(Folder\n-\n(-\nAId CDATA f1\nAWard IMPLIED\nAUnit CDATA \n\
+        (Age\n-21\n)Age\n)-\nAId CDATA f2\n";
     assert_eq!(rt; str::from_utf8(sink.written())?, lines);
     Ok(())
 }

@@ -1,14 +1,19 @@
--- A line of an explanation, by the pieces that are written one after another.
-use Rattle.std.proofs.Common.{◌≡◌, ◌≤◌, ℕ, List, [], ◌∷◌, ◌++◌, Option, Ok, length, drop, map, ap, sym, subst, ◌∙◌, append_assoc}
+-- The lines of an explanation, as they are written one after another.
+use Rattle.std.proofs.Common.{◌≡◌, ◌≤◌, ℕ, List, [], Option, Ok, length, drop, map, refl, subst}
 use Rattle.std.proofs.lemmas.List.{drop_all}
 use Rattle.std.specs.List.{concat}
-use Rattle.acl_model.specs.Ascii.{space, line_feed}
+use Rattle.acl_model.specs.Explain.{rule_word, explanation_line}
+use Rattle.acl_model.specs.declared.rule.Rule.{Rule}
 use Rattle.acl_outside.specs.Writing.{Writes}
 use Rattle.acl_outside.proofs.Remaining.{Remains, Writes-all}
+use Rattle.line_writer.specs.Parts.{explained_line}
+use Rattle.tree_meaning.specs.Told.{explanation_in}
+use Rattle.tree_meaning.specs.declared.explain.Told.{Told}
 
--- the sign and the rule, and then the place
-pub line_pieces : (sign : ℕ) (id place : List ℕ) → sign ∷ space ∷ ((id ++ (space ∷ place)) ++ line_feed ∷ []) ≡ ((sign ∷ space ∷ []) ++ (id ++ space ∷ [])) ++ (place ++ line_feed ∷ [])
-line_pieces sign id place = ap (λ text. sign ∷ space ∷ text) (append_assoc id (space ∷ place) (line_feed ∷ []) ∙ sym (append_assoc id (space ∷ []) (place ++ line_feed ∷ [])))
+-- The line of what is told of an element is that of its sign, the word of its rule and its place.
+pub line_told : (rules : List Rule) (told : Told) (word place : List ℕ) → word ≡ rule_word rules told.rule → place ≡ told.place
+    → explained_line told.sign word place ≡ explanation_line rules (explanation_in told)
+line_told rules told word place is stands = rw (is, stands) refl
 
 -- Behind the last part all is written, which may be spelled in another way.
 pub Writes-parts : {S T E X : Type 0} {written : S → Option (List ℕ)} {missed : S → Option ℕ} {settled : S → Option (List ℕ)} {faults : S → ℕ} {old new : S} {t : T}

@@ -1,10 +1,11 @@
 -- How each element of a document stands in its view, as a list that one walk finds and a second one writes by. This
 -- project's own; that what is written is the view's text is a law.
 use Rattle.std.specs.Prelude.{◌≡◌, ℕ, Option, Bool, true, false, Result, Ok, Err, List, [], ◌∷◌, ◌++◌, map, if◌then◌else◌}
-use Rattle.std.specs.List.{concat, flat_map, list_any}
-use Rattle.acl_model.specs.Ascii.{left_parenthesis, right_parenthesis, hyphen, capital_a}
+use Rattle.std.specs.List.{flat_map, list_any}
+use Rattle.acl_model.specs.Ascii.{left_parenthesis, right_parenthesis, hyphen}
 use Rattle.acl_model.specs.Text.{line}
 use Rattle.acl_outside.specs.Writing.{Writes}
+use Rattle.line_writer.specs.Parts.{start_text}
 use Rattle.acl_model.specs.declared.document.Element.{Element}
 use Rattle.acl_model.specs.declared.document.Item.{Item}
 use Rattle.acl_model.specs.declared.document.Item.TheOpen.{Item-F, Element-F}
@@ -95,18 +96,18 @@ in_turn (item ∷ items) whole shows = record {
 }
 
 -- The start of a whole element has its attributes and its name, and that of a dummy neither.
-abbrev pub start_text : Bool → List (List ℕ) → List ℕ → List ℕ
-start_text true attributes name = concat (map (line capital_a) attributes) ++ line left_parenthesis name
-start_text false attributes name = line left_parenthesis (hyphen ∷ [])
+abbrev pub shown_start : Bool → List (List ℕ) → List ℕ → List ℕ
+shown_start true attributes name = start_text attributes name
+shown_start false attributes name = line left_parenthesis (hyphen ∷ [])
 
 -- So has its end.
-abbrev pub end_text : Bool → List ℕ → List ℕ
-end_text true name = line right_parenthesis name
-end_text false name = line right_parenthesis (hyphen ∷ [])
+abbrev pub shown_end : Bool → List ℕ → List ℕ
+shown_end true name = line right_parenthesis name
+shown_end false name = line right_parenthesis (hyphen ∷ [])
 
 -- start and end stand around what is inside
 abbrev pub around : Bool → List (List ℕ) → List ℕ → Written → Written
-around whole attributes name inside = record { text = start_text whole attributes name ++ (inside.text ++ end_text whole name); rest = inside.rest }
+around whole attributes name inside = record { text = shown_start whole attributes name ++ (inside.text ++ shown_end whole name); rest = inside.rest }
 
 -- An element is written by the front of the list: whole, as a dummy, or not at all.
 abbrev pub written_by : List (List ℕ) → List ℕ → List (Bool → List Show → Written) → List Show → Written

@@ -12,10 +12,10 @@ ghost use Rattle.tree_meaning.specs.Decided.{place_of, first_entry, explanation_
 
 use crate::decided::{Decided, find_all_decided};
 use crate::explain::number_after;
-use crate::lines::{id_of, sign_and_space, write_head, write_number};
 use crate::view_writer::WriteViewFault;
 use acl_model::{Doc, Element, Item, Rule};
-use acl_outside::{Failed, NoMemory, Sink, write_piece, write_pieces};
+use acl_outside::{Failed, NoMemory, Sink, write_pieces};
+use line_writer::{end_line, rule_word, write_explanation_head, write_number, write_place};
 use std::alloc::Global;
 
 /// Where an element stands.
@@ -68,7 +68,7 @@ fn write_position<K: Sink>(position: &Position<'_>, sink: &mut K) -> Result<(), 
         (place_text (place_of position.now)) }
 {
     match position {
-        Position::Root => write_piece(sink, b"/"),
+        Position::Root => write_place(&[], sink),
         Position::Child { .. } => write_numbers_of(position, sink),
     }
 }
@@ -82,13 +82,9 @@ fn write_line<K: Sink>(
     ensures { Writes K.written K.missed K.settled K.faults result sink.old sink.new
         (explanation_line rules.now (explanation_at decided (place_of position.now))) }
 {
-    write_head(
-        sign_and_space(decided.sign),
-        id_of(rules, decided.rule),
-        sink,
-    )?;
+    write_explanation_head(decided.sign, rule_word(rules, decided.rule), sink)?;
     write_position(position, sink)?;
-    write_piece(sink, b"\n")
+    end_line(sink)
 }
 
 /// Writes the line of an element, where it has an entry.

@@ -2,16 +2,17 @@
 //! writes by that, without memory.
 
 ghost use Rattle.std.specs.Prelude.{◌≡◌, [], OnOk, drop, map, true, false, if◌then◌else◌};
-ghost use Rattle.std.specs.List.{concat, slice_get};
-ghost use Rattle.acl_model.specs.Ascii.{hyphen, capital_a};
+ghost use Rattle.std.specs.List.{slice_get};
+ghost use Rattle.acl_model.specs.Ascii.{hyphen};
 ghost use Rattle.acl_model.specs.Text.{line, text_of_view};
 ghost use Rattle.acl_model.specs.View.{view};
 ghost use Rattle.acl_outside.specs.Writing.{Writes};
-ghost use Rattle.tree_meaning.specs.Shows.{WritesView, in_turn, start_text, end_text, around, written_of, written_of_item};
+ghost use Rattle.tree_meaning.specs.Shows.{WritesView, in_turn, shown_start, shown_end, around, written_of, written_of_item};
 
 use crate::shows::{Show, find_all_shows};
-use acl_model::{Bytes, Doc, Element, Item, Rule};
+use acl_model::{Doc, Element, Item, Rule};
 use acl_outside::{Failed, NoMemory, Sink, write_pieces};
+use line_writer::{write_attributes_and_start, write_end, write_start, write_text};
 use std::alloc::Global;
 
 /// Why a view or an explanation was not written.
@@ -43,48 +44,27 @@ fn next_show(shows: &mut Shows<'_>) -> Option<Show>
     }
 }
 
-fn write_line<K: Sink>(kind: u8, argument: &[u8], sink: &mut K) -> Result<(), Failed>
+fn write_shown_start<K: Sink>(element: &Element, whole: bool, sink: &mut K) -> Result<(), Failed>
     ensures { Writes K.written K.missed K.settled K.faults result sink.old sink.new
-        (line kind argument.now) }
-{
-    write_pieces(sink, &[&[kind], argument, b"\n"])
-}
-
-fn write_attributes<K: Sink>(attributes: &[Bytes], sink: &mut K) -> Result<(), Failed>
-    ensures { Writes K.written K.missed K.settled K.faults result sink.old sink.new
-        (concat (map (line capital_a) attributes.now)) }
-{
-    for attribute in attributes {
-        write_line(b'A', attribute.as_slice(), sink)?;
-    }
-    Ok(())
-}
-
-fn write_whole_start<K: Sink>(element: &Element, sink: &mut K) -> Result<(), Failed>
-    ensures { Writes K.written K.missed K.settled K.faults result sink.old sink.new
-        (start_text true element.now.attributes element.now.name) }
-{
-    write_attributes(element.attributes.as_slice(), sink)?;
-    write_line(b'(', element.name.as_slice(), sink)
-}
-
-fn write_start<K: Sink>(element: &Element, whole: bool, sink: &mut K) -> Result<(), Failed>
-    ensures { Writes K.written K.missed K.settled K.faults result sink.old sink.new
-        (start_text whole element.now.attributes element.now.name) }
+        (shown_start whole element.now.attributes element.now.name) }
 {
     match whole {
-        true => write_whole_start(element, sink),
-        false => write_line(b'(', b"-", sink),
+        true => write_attributes_and_start(
+            element.attributes.as_slice(),
+            element.name.as_slice(),
+            sink,
+        ),
+        false => write_start(b"-", sink),
     }
 }
 
-fn write_end<K: Sink>(element: &Element, whole: bool, sink: &mut K) -> Result<(), Failed>
+fn write_shown_end<K: Sink>(element: &Element, whole: bool, sink: &mut K) -> Result<(), Failed>
     ensures { Writes K.written K.missed K.settled K.faults result sink.old sink.new
-        (end_text whole element.now.name) }
+        (shown_end whole element.now.name) }
 {
     match whole {
-        true => write_line(b')', element.name.as_slice(), sink),
-        false => write_line(b')', b"-", sink),
+        true => write_end(element.name.as_slice(), sink),
+        false => write_end(b"-", sink),
     }
 }
 
@@ -122,9 +102,9 @@ fn write_around<K: Sink>(
     ensures left { OnOk result (shows.new.left.now
         ≡ (in_turn (map written_of_item element.now.items) whole shows.old.left.now).rest) }
 {
-    write_start(element, whole, sink)?;
+    write_shown_start(element, whole, sink)?;
     write_items(element, whole, shows, sink)?;
-    write_end(element, whole, sink)
+    write_shown_end(element, whole, sink)
 }
 
 #[cycle(view)]
@@ -158,17 +138,17 @@ fn write_item<K: Sink>(
         (shows.new.left.now ≡ (written_of_item item.now whole shows.old.left.now).rest) }
 {
     match item {
-        Item::Text(bytes) => write_text(bytes.as_slice(), whole, sink),
+        Item::Text(bytes) => write_shown_text(bytes.as_slice(), whole, sink),
         Item::Child(element) => write_element(element.get(), shows, sink),
     }
 }
 
-fn write_text<K: Sink>(bytes: &[u8], whole: bool, sink: &mut K) -> Result<(), Failed>
+fn write_shown_text<K: Sink>(bytes: &[u8], whole: bool, sink: &mut K) -> Result<(), Failed>
     ensures { Writes K.written K.missed K.settled K.faults result sink.old sink.new
         (if whole then line hyphen bytes.now else []) }
 {
     match whole {
-        true => write_line(b'-', bytes, sink),
+        true => write_text(bytes, sink),
         false => write_pieces(sink, &[]),
     }
 }

@@ -15,4 +15,4 @@ returns-in_err-write_numbers_of-in-Child g t c =
 pub returns-in_ok-write_numbers_of-in-Child : goal.returns-in_ok-write_numbers_of-in-Child
 returns-in_ok-write_numbers_of-in-Child g t c =
     subst (Writes _ _ _ _ _ _ _) (sym (ap (λ p. concat (map (λ number. slash ∷ decimal number) (place_of p))) c.in-Child.is ∙ numbers_of_child (place_of c.in-Child.parent.now) c.in-Child.number))
-    (Writes-then c.write_numbers_of.ensures c.branch-write_numbers_of.ensures c.in_ok-write_numbers_of-in-Child.is refl (Writes-last c.write_number.ensures refl))
+    (Writes-then c.write_numbers_of.ensures c.branch-write_numbers_of.ensures c.in_ok-write_numbers_of-in-Child.is refl (Writes-last c.write_number.ensures.written refl))

@@ -61,13 +61,13 @@ write_element-returns-in-None-clause-left g t c =
 
 pub write_item-returns-in-Text-clause-written : goal.write_item-returns-in-Text-clause-written
 write_item-returns-in-Text-clause-written g t c =
-    Writes-last c.write_text.ensures
+    Writes-last c.write_shown_text.ensures
     (ap (λ bytes. if c.args.whole then line hyphen bytes else []) c.as_slice.ensures
     ∙ ap {A = Written} (λ w. w.text) (sym (ap (λ item. written_of_item item c.args.whole c.args.shows.now.left.now) c.in-Text.is ∙ written_of_item-Text c.in-Text.bytes c.args.whole c.args.shows.now.left.now)))
 
 pub write_item-returns-in-Text-clause-left : goal.write_item-returns-in-Text-clause-left
 write_item-returns-in-Text-clause-left g t c =
-    OnOk-always c.write_text.result
+    OnOk-always c.write_shown_text.result
     (ap {A = Written} (λ w. w.rest) (sym (ap (λ item. written_of_item item c.args.whole c.args.shows.now.left.now) c.in-Text.is ∙ written_of_item-Text c.in-Text.bytes c.args.whole c.args.shows.now.left.now)))
 
 pub write_item-returns-in-Child-clause-written : goal.write_item-returns-in-Child-clause-written
