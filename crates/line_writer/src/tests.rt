@@ -2,7 +2,8 @@
 
 use super::*;
 use acl_model::{Bytes, Path, Rule, Sequence, Sign};
-use acl_outside::{MemSink, write_piece};
+use acl_outside::{Failed, MemSink, write_piece};
+use std::alloc::Global;
 use std::test::Fail;
 
 #[test]
@@ -34,6 +35,38 @@ fn a_document_is_written_line_by_line(rt: HostRuntime) -> Result<(), Fail> {
     Ok(())
 }
 
+/// Writes an explanation's line number by number.
+fn write_by_parts(
+    sign: Sign,
+    word: &[u8],
+    place: &[u64],
+    sink: &mut MemSink,
+) -> Result<(), Failed> {
+    write_explanation_head(sign, word, sink)?;
+    if place.is_empty() {
+        write_place(place, sink)?;
+    }
+    for number in place {
+        write_number(*number, sink)?;
+    }
+    end_line(sink)
+}
+
+/// Whether an explanation's line is written so, at once and number by number.
+fn is_written_as(
+    alloc: Global,
+    sign: Sign,
+    word: &[u8],
+    place: &[u64],
+    line: &str,
+) -> Result<bool, Fail> {
+    let mut sink = MemSink::new(alloc, 20, Vec::new(alloc))?;
+    write_explanation_line(sign, word, place, &mut sink)?;
+    let mut by_parts = MemSink::new(alloc, 20, Vec::new(alloc))?;
+    write_by_parts(sign, word, place, &mut by_parts)?;
+    Ok(sink.written() == line.as_bytes() && by_parts.written() == line.as_bytes())
+}
+
 #[test]
 fn an_explanation_line_has_sign_rule_and_place(rt: HostRuntime) -> Result<(), Fail> {
     let alloc = rt.alloc();
@@ -46,30 +79,11 @@ fn an_explanation_line_has_sign_rule_and_place(rt: HostRuntime) -> Result<(), Fa
             path: Path { steps }
         },
     ]?;
-    let rows: [(Sign, Option<u16>, &[u64], &str); 4] = [
-        (Sign::Deny, None, &[], "- closed /\n"),
-        (Sign::Grant, Some(0), &[], "+ R.1 /\n"),
-        (Sign::Deny, Some(0), &[3], "- R.1 /3\n"),
-        (Sign::Grant, Some(0), &[1, 10, 2], "+ R.1 /1/10/2\n"),
-    ];
-    for (sign, number, place, line) in rows {
-        let word = rule_word(rules.as_slice(), number);
-        let mut sink = MemSink::new(alloc, 20, Vec::new(alloc))?;
-        write_explanation_line(sign, word, place, &mut sink)?;
-        assert_eq!(rt; str::from_utf8(sink.written())?, line);
-        let mut by_parts = MemSink::new(alloc, 20, Vec::new(alloc))?;
-        write_explanation_head(sign, word, &mut by_parts)?;
-        match place {
-            [] => write_place(&[], &mut by_parts)?,
-            [first, rest @ ..] => {
-                write_number(*first, &mut by_parts)?;
-                for number in rest {
-                    write_number(*number, &mut by_parts)?;
-                }
-            }
-        }
-        end_line(&mut by_parts)?;
-        assert_eq!(rt; by_parts.written(), sink.written(), "{line}");
-    }
+    let closed = rule_word(rules.as_slice(), None);
+    let named = rule_word(rules.as_slice(), Some(0));
+    assert!(rt; is_written_as(alloc, Sign::Deny, closed, &[], "- closed /\n")?);
+    assert!(rt; is_written_as(alloc, Sign::Grant, named, &[], "+ R.1 /\n")?);
+    assert!(rt; is_written_as(alloc, Sign::Deny, named, &[3], "- R.1 /3\n")?);
+    assert!(rt; is_written_as(alloc, Sign::Grant, named, &[1, 10, 2], "+ R.1 /1/10/2\n")?);
     Ok(())
 }
