@@ -47,7 +47,10 @@ fn opened(rt: &HostRuntime, name: Option<&str>) -> Option<File> {
 /// The files that the words name: of the keys or the rules, and of the store. Words that are no command line name none.
 fn open_files(rt: &HostRuntime, words: &[String]) -> (Option<File>, Option<File>) {
     match named_files(words) {
-        Some(files) => (opened(rt, files.keys.or(files.rules)), opened(rt, files.store)),
+        Some(files) => (
+            opened(rt, files.keys.or(files.rules)),
+            opened(rt, files.store),
+        ),
         None => (None, None),
     }
 }
