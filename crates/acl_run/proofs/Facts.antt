@@ -89,6 +89,19 @@ where_whole (fault note) p = p
 where_whole stopped p = tt
 where_whole (refused subject) p = tt
 
+-- what follows where the whole was written
+pub where_whole_so : (e : End) (P Q : Type 0) → (P → Q) → WhereWhole e P → WhereWhole e Q
+where_whole_so done P Q f p = f p
+where_whole_so no_memory P Q f p = tt
+where_whole_so usage P Q f p = tt
+where_whole_so (fault keys) P Q f p = tt
+where_whole_so (fault input) P Q f p = tt
+where_whole_so (fault store) P Q f p = tt
+where_whole_so (fault out) P Q f p = tt
+where_whole_so (fault note) P Q f p = f p
+where_whole_so stopped P Q f p = tt
+where_whole_so (refused subject) P Q f p = tt
+
 -- ---- sources
 
 -- what holds whatever both sources tell

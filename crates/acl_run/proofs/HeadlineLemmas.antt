@@ -2,13 +2,14 @@
 use Rattle.std.proofs.Common.{◌≡◌, ℕ, Bool, true, false, Option, Some, None, Result, Ok, Err, List, [], ◌∷◌, ◌++◌, length, take, IfSome, refl, sym, ap, subst, arith, true≢false}
 use Rattle.std.proofs.Math.Seq.{take-append_seam}
 use Rattle.std.specs.Bool.{OnTrue}
+use Rattle.std.specs.Io.KnownBytes.{Appends}
 use Rattle.acl_model.specs.Document.{is_document}
 use Rattle.acl_model.specs.declared.document.Doc.{Doc}
 use Rattle.acl_outside.specs.Outside.{AppendsPart, StoreRead}
 use Rattle.acl_outside.specs.declared.read_fault.ReadFault.{ReadFault}
 use Rattle.acl_outside.specs.declared.read_fault.ReadFault.TheVariants.{BadFragment, BadHeader, BadIndex, StoreFault, StoreShort, WrongKey, WrongRoot}
 use Rattle.acl_outcome.specs.declared.outcome.Outcome.{Outcome}
-use Rattle.acl_outcome.specs.Ends.{end_of}
+use Rattle.acl_outcome.specs.Ends.{End, end_of}
 use Rattle.licence.specs.declared.keys.Keys.{Keys}
 use Rattle.licence.specs.declared.terms.Licence.{Licence}
 use Rattle.merkle_chunks.specs.File.{HasRoot, file_root}
@@ -19,12 +20,14 @@ use Rattle.fragment_open.specs.Starting.{HoldsDocument}
 use Rattle.fragment_open.specs.Told.{Told}
 use Rattle.fragment_open.proofs.ClimbLemmas.{Told-none, Told-weaker}
 use Rattle.file_reading.specs.FileEnds.{FileEnds, IsShown, OfHeldDocument}
+use Rattle.file_reading.specs.WholeFile.{ShowsNoDocument}
 use Rattle.acl_run.specs.declared.preview.Wanted.{Wanted}
 use Rattle.acl_words.specs.Command.{Command, Shown, preview, encode, seal, view, sample}
-use Rattle.acl_run.specs.Headline.{HasStoreCause, IsRefusedAsShown, OfEachDueText, OfHeldText, OfKeys, OfLicence, OfOpened, OfWanted, is_store_end}
+use Rattle.acl_run.specs.Headline.{EndsWithoutDocument, HasStoreCause, IsRefusedAsShown, OfEachDueText, OfHeldText, OfKeys, OfLicence, OfOpened, OfWanted, WritesShown, is_store_end}
 use Rattle.acl_run.specs.Preview.{wanted_by, wanted_text}
 use Rattle.acl_run.specs.Readers.{keys_of, sealed_licence_of}
-use Rattle.acl_run.proofs.Facts.{whatever_told}
+use Rattle.acl_run.specs.Texts.{WhereWhole}
+use Rattle.acl_run.proofs.Facts.{whatever_told, where_whole_so}
 
 -- ---- what holds anyway
 
@@ -114,6 +117,36 @@ unshown c kl ql a o =
     whatever_told kl ql (λ secret sealed. Told a a (λ reads. OfOpened c secret sealed (λ k l wanted. IsRefusedAsShown o l.root k.document reads)))
     (λ secret sealed. Told-none a (λ reads. OfOpened c secret sealed (λ k l wanted. IsRefusedAsShown o l.root k.document reads))
     (of_opened c secret sealed (λ k l wanted. IsRefusedAsShown o l.root k.document []) (λ k l wanted fault shown. absurd (nothing_shown l.root k.document fault shown))))
+
+no_file : (root key : List ℕ) → ShowsNoDocument root key [] → ⊥
+no_file root key shows = no_some _ shows.whole_file.checked.header_is
+
+-- where the store was not asked, no file is shown
+pub unshown_document : (c : Command) (kl ql : Option (List ℕ)) (a : Option (List StoreRead)) (o : Outcome)
+    → IfSome kl (λ secret. IfSome ql (λ sealed. Told a a (λ reads. OfOpened c secret sealed (λ k l wanted. EndsWithoutDocument o l.root k.document reads))))
+unshown_document c kl ql a o =
+    whatever_told kl ql (λ secret sealed. Told a a (λ reads. OfOpened c secret sealed (λ k l wanted. EndsWithoutDocument o l.root k.document reads)))
+    (λ secret sealed. Told-none a (λ reads. OfOpened c secret sealed (λ k l wanted. EndsWithoutDocument o l.root k.document reads))
+    (of_opened c secret sealed (λ k l wanted. EndsWithoutDocument o l.root k.document []) (λ k l wanted shows. absurd (no_file l.root k.document shows))))
+
+-- ---- what was written
+
+-- what holds of whatever was read
+pub opened_anyway : (c : Command) (kl ql : Option (List ℕ)) (a b : Option (List StoreRead)) (Q : List StoreRead → Type 0) (holds : List StoreRead → Keys → Licence → Wanted → Type 0)
+    → ((reads : List StoreRead) (k : Keys) (l : Licence) (w : Wanted) → holds reads k l w) → Told a b Q
+    → IfSome kl (λ secret. IfSome ql (λ sealed. Told a b (λ reads. OfOpened c secret sealed (holds reads))))
+opened_anyway c kl ql a b Q holds all told =
+    whatever_told kl ql (λ secret sealed. Told a b (λ reads. OfOpened c secret sealed (holds reads)))
+    (λ secret sealed. Told-weaker a b Q (λ reads. OfOpened c secret sealed (holds reads)) told
+    (λ reads q. of_opened c secret sealed (holds reads) (all reads)))
+
+-- the text of the document that was read is of one which the reads show
+pub written_shown : (e : End) (k : Keys) (l : Licence) (w : Wanted) (before after : Option (List ℕ)) (d : Doc) (reads : List StoreRead)
+    → is_document d ≡ true → FileEnds (Ok d) l.root k.document reads → WhereWhole e (Appends before after (wanted_text d l.rules w))
+    → WhereWhole e (WritesShown k l w reads before after)
+written_shown e k l w before after d reads document read =
+    where_whole_so e (Appends before after (wanted_text d l.rules w)) (WritesShown k l w reads before after)
+    (λ written. record { d = d; document = document; shows = read.shows; written = written })
 
 -- ---- before the first byte is written
 

@@ -11,7 +11,10 @@ use Rattle.acl_outcome.specs.declared.outcome.Outcome.{Outcome}
 use Rattle.acl_outcome.specs.Ends.{keys, input, store, out, note, a_length, a_document, a_seal, a_licence}
 use Rattle.acl_outcome.specs.Ends.{some_states, a_query, some_keys, a_size}
 use Rattle.acl_outcome.specs.Ends.{End, done, no_memory, usage, fault, stopped, refused, end_of}
+use Rattle.fragment_open.specs.Checked.{AreOpeningsChecked}
+use Rattle.fragment_open.specs.Openings.{openings}
 use Rattle.fragment_open.specs.Told.{Told}
+use Rattle.fragment_open.proofs.CheckedLemmas.{unopened-checked, unrefused-checked}
 use Rattle.fragment_open.proofs.ClimbLemmas.{Told-none, Told-weaker}
 use Rattle.file_reading.specs.FileEnds.{IsFileCause, IsShown}
 use Rattle.acl_words.specs.Command.{Shown, preview, encode, seal, sample}
@@ -29,12 +32,12 @@ use Rattle.acl_run.proofs.StoreEnds.{refusal_cause, refused_so, unrefused_so}
 served_cause : (f : ReadFault) (root key : List ℕ) (reads : List StoreRead) → IsFileCause root key f reads
     → IsServedCause f reads
 served_cause BadHeader root key reads why = why
-served_cause (WrongRoot want made) root key reads why = (why.0, why.2, why.4)
-served_cause (WrongKey want made) root key reads why = (why.1, why.3, why.5)
+served_cause (WrongRoot want made) root key reads why = (why.0, why.2, why.3, why.4)
+served_cause (WrongKey want made) root key reads why = (why.1, why.3, why.4, why.5)
 served_cause (StoreShort to) root key reads why = why
 served_cause StoreFault root key reads why = why
 served_cause (BadFragment index want made) root key reads why = (why.1, why.2, why.3, why.4, why.5)
-served_cause BadIndex root key reads why = why.0
+served_cause BadIndex root key reads why = (why.0, (root, key, why.2))
 
 -- what follows under a test
 under : (b : Bool) (P Q : Type 0) → (P → Q) → OnTrue b P → OnTrue b Q
@@ -94,6 +97,21 @@ unrefused_alone d o root key reads exact = alone o root key reads (unrefused_so 
 pub unrefused_unasked : (o : Outcome) (a : Option (List StoreRead)) → Told a a (IsRefusedAsServed o)
 unrefused_unasked o a =
     Told-none a (IsRefusedAsServed o) (λ f shown. absurd (nothing_shown [] [] f (shown_by f [] [] [] shown)))
+
+-- ---- each opening was checked
+
+none_opened : openings [] ≡ []
+unfolding openings
+none_opened = refl
+
+-- a store that was not asked opened no fragment
+pub unasked_checked : (bad : Bool) (a : Option (List StoreRead)) → Told a a (AreOpeningsChecked bad)
+unasked_checked bad a = Told-none a (AreOpeningsChecked bad) (unopened-checked [] bad none_opened)
+
+-- no fragment was refused
+pub checked_anyway : (bad : Bool) (a b : Option (List StoreRead)) → Told a b (AreOpeningsChecked false) → Told a b (AreOpeningsChecked bad)
+checked_anyway bad a b told =
+    Told-weaker a b (AreOpeningsChecked false) (AreOpeningsChecked bad) told (λ reads checked. unrefused-checked reads bad checked)
 
 -- ---- commands that open no store
 

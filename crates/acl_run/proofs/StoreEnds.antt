@@ -1,7 +1,8 @@
 -- How the reading of a store's file ends in a run.
 use Rattle.std.proofs.Common.{◌≡◌, ℕ, Ok, Err, IsTrue, refl, sym, ap, ◌∙◌, subst}
-use Rattle.std.specs.Prelude.{Option, Some, None, Result, List, is_some}
+use Rattle.std.specs.Prelude.{Bool, Option, Some, None, Result, List, is_some}
 use Rattle.acl_outside.specs.Outside.{CountsWhere, Rose, StoreRead}
+use Rattle.fragment_open.specs.Checked.{AreOpeningsChecked}
 use Rattle.fragment_open.specs.Served.{IsRegular}
 use Rattle.fragment_open.specs.Told.{Told}
 use Rattle.acl_outcome.specs.declared.outcome.Outcome.{Outcome}
@@ -11,10 +12,10 @@ use Rattle.acl_outside.specs.declared.read_fault.ReadFault.{ReadFault}
 use Rattle.acl_outside.specs.declared.read_fault.ReadFault.TheVariants.{BadFragment, BadHeader, BadIndex, StoreFault, StoreShort, WrongKey, WrongRoot}
 use Rattle.file_reading.specs.declared.fault.FileFault.{FileFault}
 use Rattle.file_reading.specs.declared.fault.FileFault.TheVariants.{NoMemory, Refused}
-use Rattle.file_reading.specs.FileEnds.{FileEnds, IsHonestFault, IsQuietFault, IsRefusedWhereShown, IsStoreFailure}
+use Rattle.file_reading.specs.FileEnds.{FileEnds, IsBadIndexOrNoMemory, IsHonestFault, IsQuietFault, IsRefusedWhereShown, IsStoreFailure, is_bad_fragment}
 use Rattle.acl_run.specs.Headline.{HasStoreCause, IsRefusedAsShown, is_store_end}
 use Rattle.acl_run.specs.Opening.{IsHonestEnd, IsStoreRefused, StoreEnds, ends_opening}
-use Rattle.acl_run.specs.Outcomes.{outcome_of_file_fault, outcome_of_read_fault}
+use Rattle.acl_run.specs.Outcomes.{IsOfNoDocument, is_bad_fragment_outcome, outcome_of_file_fault, outcome_of_read_fault}
 use Rattle.acl_run.proofs.Facts.{on_true}
 
 -- each fault ends a run where the store is opened
@@ -107,3 +108,37 @@ no_outcome a b d o a_is b_is same = cc
 pub unrefused_so : (d : Doc) (outcome : Outcome) (root key : List ℕ) (reads : List StoreRead) → IsStoreRefused (Ok d) root key reads → IsRefusedAsShown outcome root key reads
 unrefused_so d outcome root key reads exact told shown =
     absurd (no_outcome (Ok d) (Err (outcome_of_read_fault told)) d (outcome_of_read_fault told) refl refl (exact told shown))
+
+-- ---- each opening was checked
+
+same_refusal : (f : FileFault) → is_bad_fragment {T = Doc} (Err f) ≡ is_bad_fragment_outcome (outcome_of_file_fault f)
+same_refusal NoMemory = refl
+same_refusal (Refused BadHeader) = refl
+same_refusal (Refused (WrongRoot want made)) = refl
+same_refusal (Refused (WrongKey want made)) = refl
+same_refusal (Refused (StoreShort at)) = refl
+same_refusal (Refused StoreFault) = refl
+same_refusal (Refused (BadFragment index want made)) = refl
+same_refusal (Refused BadIndex) = refl
+
+-- the outcome is the refusal of a fragment where the fault is
+pub fault_checked : (f : FileFault) (o : Outcome) (reads : List StoreRead) → o ≡ outcome_of_file_fault f
+    → AreOpeningsChecked (is_bad_fragment {T = Doc} (Err f)) reads → AreOpeningsChecked (is_bad_fragment_outcome o) reads
+fault_checked f o reads is checked =
+    subst (λ (refused : Bool). AreOpeningsChecked refused reads) (same_refusal f ∙ ap is_bad_fragment_outcome (sym is)) checked
+
+-- ---- a file of no document
+
+without_document : (f : FileFault) → IsBadIndexOrNoMemory {T = Doc} (Err f) → IsOfNoDocument (outcome_of_file_fault f)
+without_document NoMemory h = tt
+without_document (Refused BadHeader) h = absurd h
+without_document (Refused (WrongRoot want made)) h = absurd h
+without_document (Refused (WrongKey want made)) h = absurd h
+without_document (Refused (StoreShort at)) h = absurd h
+without_document (Refused StoreFault) h = absurd h
+without_document (Refused (BadFragment index want made)) h = absurd h
+without_document (Refused BadIndex) h = tt
+
+-- it ends a run as it is refused
+pub fault_without : (f : FileFault) (o : Outcome) → o ≡ outcome_of_file_fault f → IsBadIndexOrNoMemory {T = Doc} (Err f) → IsOfNoDocument o
+fault_without f o is h = subst IsOfNoDocument (sym is) (without_document f h)

@@ -15,7 +15,7 @@ use Rattle.std.proofs.KnownBytes.{Appends-nil}
 use Rattle.acl_run.specs.Work.{untold_steps, may_end, is_behind_keys, is_behind_input}
 use Rattle.acl_run.proofs.Facts.{on_true, whatever_told}
 use Rattle.acl_run.proofs.HeadlineLemmas.{part_of_none, unasked}
-use Rattle.acl_run.proofs.Served.{served_unasked, unrefused_unasked}
+use Rattle.acl_run.proofs.Served.{served_unasked, unasked_checked, unrefused_unasked}
 use Rattle.acl_run.proofs.Objects.{source-same, source-unused, sink-same, sink-unblamed, store-same, store-unblamed}
 
 -- ---- words and commands
@@ -226,4 +226,4 @@ where_untold None = tt
 where_untold (Some a) = tt
 
 -- for the top call
-pub ruleset tops = (on_true, usage_of_taken, where_taken, preview-unblamed_store, preview-unblamed_note, encode-unblamed_store, seal-unblamed_store, seal-unblamed_note, view-unblamed_note, sample-unblamed_keys, sample-unblamed_input, sample-unblamed_store, sample-keys_unread, sample-input_unread, source-same, source-unused, sink-same, sink-unblamed, store-same, store-unblamed, unasked, served_unasked, unrefused_unasked)
+pub ruleset tops = (on_true, usage_of_taken, where_taken, preview-unblamed_store, preview-unblamed_note, encode-unblamed_store, seal-unblamed_store, seal-unblamed_note, view-unblamed_note, sample-unblamed_keys, sample-unblamed_input, sample-unblamed_store, sample-keys_unread, sample-input_unread, source-same, source-unused, sink-same, sink-unblamed, store-same, store-unblamed, unasked, served_unasked, unasked_checked, unrefused_unasked)

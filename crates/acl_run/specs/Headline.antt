@@ -1,6 +1,7 @@
 -- What `view` and `explain` promise of a store that nobody trusts. This project's own.
 use Rattle.std.specs.Prelude.{◌≡◌, ◌≢◌, ℕ, Bool, true, false, is_some, Option, Some, None, option_map, option_and_then, Result, Ok, Err, List, [], ◌∷◌, map}
 use Rattle.std.specs.Bool.{OnTrue}
+use Rattle.std.specs.Io.KnownBytes.{Appends}
 use Rattle.std.specs.List.{list_all, slice_get}
 use Rattle.sha2.specs.Sha256.{sha256}
 use Rattle.acl_model.specs.Document.{is_document}
@@ -11,20 +12,22 @@ use Rattle.acl_outside.specs.declared.read_fault.ReadFault.TheVariants.{BadFragm
 use Rattle.acl_outcome.specs.declared.outcome.Outcome.{Outcome}
 use Rattle.acl_outcome.specs.Ends.{Object, store, is_same, End, done, no_memory, usage, fault, stopped, refused, end_of}
 use Rattle.file_reading.specs.FileEnds.{IsFileCause, IsShown, first_short}
+use Rattle.file_reading.specs.WholeFile.{IsUnfinished, ShowsDocument, ShowsNoDocument}
 use Rattle.fragment_open.specs.Asks.{ask_of, header_ask}
 use Rattle.fragment_open.specs.Clash.{reads_clash}
 use Rattle.fragment_open.specs.Hashed.{folded, wanted}
 use Rattle.fragment_open.specs.Openings.{indexes}
 use Rattle.fragment_open.specs.Served.{header_served, root_served, whole}
-use Rattle.fragment_open.specs.Starting.{HoldsDocument}
+use Rattle.fragment_open.specs.Starting.{AreOfStart, HoldsDocument}
 use Rattle.fragment_open.specs.Told.{IsCut, is_whole}
 use Rattle.licence.specs.declared.keys.Keys.{Keys}
 use Rattle.licence.specs.declared.terms.Licence.{Licence}
 use Rattle.merkle_chunks.specs.File.{HasRoot, file_root}
+use Rattle.merkle_chunks.specs.declared.header.Header.{Header}
 use Rattle.acl_run.specs.declared.preview.Wanted.{Wanted}
 use Rattle.acl_words.specs.Command.{Command, Shown, preview, encode, seal, view, sample}
 use Rattle.acl_run.specs.Preview.{wanted_by, wanted_text}
-use Rattle.acl_run.specs.Outcomes.{outcome_of_read_fault}
+use Rattle.acl_run.specs.Outcomes.{IsOfNoDocument, outcome_of_read_fault}
 use Rattle.acl_run.specs.Readers.{keys_of, sealed_licence_of}
 use Rattle.acl_run.specs.Steps.{is_of_store}
 
@@ -98,22 +101,26 @@ IsRefusedAsShown outcome root key reads = (fault : ReadFault) → IsShown root k
 
 -- ---- why the store was refused, by what it served alone, whatever root and key the run had
 
--- What the reads alone say of a refusal: what came as a header is none; the root string has another digest than the wanted one,
--- or the header another check than the key; a read came short; all came whole and the store failed; or the newest opening, of
--- this fragment, folds to another digest than the wanted one.
+-- What the reads alone say of a refusal: what came as a header is none; these are the two reads of a start, and came whole, and
+-- the root string has another digest than the wanted one, or the header another check than the key; a read came short; all came
+-- whole, are unfinished, and the store failed; all came whole, and the newest opening, of this fragment, folds to another digest
+-- than the wanted one; or all came whole and show, under some root and key, a whole file of no document.
 abbrev pub IsServedCause : ReadFault → List StoreRead → Type 0
 IsServedCause BadHeader reads =
     (map ask_of reads ≡ header_ask ∷ []) × (header_served reads ≡ None) × (list_all is_whole reads ≡ true)
 IsServedCause (WrongRoot want made) reads =
-    (option_map sha256 (root_served reads) ≡ Some made) × (want ≢ made) × (list_all is_whole reads ≡ true)
+    (option_map sha256 (root_served reads) ≡ Some made) × (want ≢ made)
+    × ((header : Header) × AreOfStart header reads) × (list_all is_whole reads ≡ true)
 IsServedCause (WrongKey want made) reads =
-    (option_map (λ h. h.check) (header_served reads) ≡ Some want) × (want ≢ made) × (list_all is_whole reads ≡ true)
+    (option_map (λ h. h.check) (header_served reads) ≡ Some want) × (want ≢ made)
+    × ((header : Header) × AreOfStart header reads) × (list_all is_whole reads ≡ true)
 IsServedCause (StoreShort to) reads = IsCut to reads
-IsServedCause StoreFault reads = list_all is_whole reads ≡ true
+IsServedCause StoreFault reads = (list_all is_whole reads ≡ true) × IsUnfinished reads
 IsServedCause (BadFragment index want made) reads =
     (list_all is_whole reads ≡ true) × ((before : List ℕ) × (indexes reads ≡ index ∷ before))
     × (folded sha256 reads ≡ Some made) × (wanted sha256 reads ≡ Some want) × (want ≢ made)
-IsServedCause BadIndex reads = list_all is_whole reads ≡ true
+IsServedCause BadIndex reads =
+    (list_all is_whole reads ≡ true) × ((root : List ℕ) × (key : List ℕ) × ShowsNoDocument root key reads)
 
 -- An outcome that speaks of the store has what the reads alone say of its cause.
 abbrev pub HasServedCause : Outcome → List StoreRead → Type 0
@@ -121,8 +128,8 @@ HasServedCause outcome reads = OnTrue (is_store_end (end_of outcome))
     ((fault : ReadFault) × (outcome ≡ outcome_of_read_fault fault) × IsServedCause fault reads)
 
 -- What the reads alone show, whatever the root and the key: what was served as a header is none; a read came short; or the
--- newest opening folds to another digest than the wanted one. A wrong root and a wrong key show by a root and a key; a store's
--- own failure and a wrong index show by no read alone.
+-- newest opening folds to another digest than the wanted one. A wrong root and a wrong key show by a root and a key. A store's
+-- own failure shows by no read alone. Where the reads show a file of no document, want of memory may be answered too.
 abbrev pub IsServedFault : ReadFault → List StoreRead → Type 0
 IsServedFault BadHeader reads =
     (is_some (option_and_then (whole 64) (slice_get reads 0)) ≡ true) × (header_served reads ≡ None)
@@ -138,3 +145,16 @@ IsServedFault BadIndex reads = ⊥
 -- Where the reads alone show why the store is to be refused, the run ends with that refusal.
 abbrev pub IsRefusedAsServed : Outcome → List StoreRead → Type 0
 IsRefusedAsServed outcome reads = (fault : ReadFault) → IsServedFault fault reads → outcome ≡ outcome_of_read_fault fault
+
+-- ---- of which document a file is, by what the store served
+
+-- The reads show a document under the licence's root and the document key, and what was written is the text that is due of it.
+pub record WritesShown (keys : Keys) (licence : Licence) (wanted : Wanted) (reads : List StoreRead) (before after : Option (List ℕ)) : Type 0 where
+  pub d : Doc
+  pub document : is_document d ≡ true
+  pub shows : ShowsDocument licence.root keys.document d reads
+  pub written : Appends before after (wanted_text d licence.rules wanted)
+
+-- Where the reads show a file of no document, the run ends with BadIndex, or memory was wanting.
+abbrev pub EndsWithoutDocument : Outcome → List ℕ → List ℕ → List StoreRead → Type 0
+EndsWithoutDocument outcome root key reads = ShowsNoDocument root key reads → IsOfNoDocument outcome

@@ -1,4 +1,5 @@
 -- The outcome that answers each fault of what a run reads. This project's own.
+use Rattle.std.specs.Prelude.{Bool, true, false}
 use Rattle.acl_outcome.specs.declared.outcome.Outcome.{Outcome}
 use Rattle.esis_lines.specs.declared.doc_fault.DocFault.{DocFault}
 use Rattle.licence.specs.declared.fault.LicenceFault.{LicenceFault}
@@ -55,3 +56,75 @@ outcome_of_read_fault ReadFault.BadIndex = Outcome.BadIndex
 abbrev pub outcome_of_file_fault : FileFault → Outcome
 outcome_of_file_fault (FileFault.Refused fault) = outcome_of_read_fault fault
 outcome_of_file_fault FileFault.NoMemory = Outcome.NoMemory
+
+-- whether an outcome is the refusal of a fragment, by what its opening folds to
+abbrev pub is_bad_fragment_outcome : Outcome → Bool
+is_bad_fragment_outcome Outcome.Done = false
+is_bad_fragment_outcome Outcome.NoMemory = false
+is_bad_fragment_outcome Outcome.Usage = false
+is_bad_fragment_outcome Outcome.KeysFault = false
+is_bad_fragment_outcome Outcome.NoteFault = false
+is_bad_fragment_outcome (Outcome.BadLine line) = false
+is_bad_fragment_outcome (Outcome.Unsupported line kind) = false
+is_bad_fragment_outcome (Outcome.Unbalanced line) = false
+is_bad_fragment_outcome Outcome.NoRoot = false
+is_bad_fragment_outcome (Outcome.SecondRoot line) = false
+is_bad_fragment_outcome (Outcome.TooDeep line) = false
+is_bad_fragment_outcome (Outcome.NameTooLong line) = false
+is_bad_fragment_outcome (Outcome.InputTooLong limit) = false
+is_bad_fragment_outcome Outcome.SourceFault = false
+is_bad_fragment_outcome (Outcome.TooManyAttributes line) = false
+is_bad_fragment_outcome (Outcome.BadSeal given made) = false
+is_bad_fragment_outcome (Outcome.BadRule line at) = false
+is_bad_fragment_outcome (Outcome.BadLicence line) = false
+is_bad_fragment_outcome Outcome.TooManyRules = false
+is_bad_fragment_outcome Outcome.TooManyStates = false
+is_bad_fragment_outcome (Outcome.BadKeys line) = false
+is_bad_fragment_outcome (Outcome.BadQuery at) = false
+is_bad_fragment_outcome Outcome.BadHeader = false
+is_bad_fragment_outcome (Outcome.WrongRoot want made) = false
+is_bad_fragment_outcome (Outcome.WrongKey want made) = false
+is_bad_fragment_outcome (Outcome.StoreShort at) = false
+is_bad_fragment_outcome Outcome.StoreFault = false
+is_bad_fragment_outcome (Outcome.BadFragment index want made) = true
+is_bad_fragment_outcome Outcome.TooManyTags = false
+is_bad_fragment_outcome Outcome.TooLarge = false
+is_bad_fragment_outcome Outcome.BadIndex = false
+is_bad_fragment_outcome Outcome.SinkFault = false
+is_bad_fragment_outcome (Outcome.Stopped watcher line) = false
+
+-- An outcome that a run may have over a file of no document: BadIndex, or memory was wanting.
+abbrev pub IsOfNoDocument : Outcome → Type 0
+IsOfNoDocument Outcome.Done = ⊥
+IsOfNoDocument Outcome.NoMemory = Unit {0}
+IsOfNoDocument Outcome.Usage = ⊥
+IsOfNoDocument Outcome.KeysFault = ⊥
+IsOfNoDocument Outcome.NoteFault = ⊥
+IsOfNoDocument (Outcome.BadLine line) = ⊥
+IsOfNoDocument (Outcome.Unsupported line kind) = ⊥
+IsOfNoDocument (Outcome.Unbalanced line) = ⊥
+IsOfNoDocument Outcome.NoRoot = ⊥
+IsOfNoDocument (Outcome.SecondRoot line) = ⊥
+IsOfNoDocument (Outcome.TooDeep line) = ⊥
+IsOfNoDocument (Outcome.NameTooLong line) = ⊥
+IsOfNoDocument (Outcome.InputTooLong limit) = ⊥
+IsOfNoDocument Outcome.SourceFault = ⊥
+IsOfNoDocument (Outcome.TooManyAttributes line) = ⊥
+IsOfNoDocument (Outcome.BadSeal given made) = ⊥
+IsOfNoDocument (Outcome.BadRule line at) = ⊥
+IsOfNoDocument (Outcome.BadLicence line) = ⊥
+IsOfNoDocument Outcome.TooManyRules = ⊥
+IsOfNoDocument Outcome.TooManyStates = ⊥
+IsOfNoDocument (Outcome.BadKeys line) = ⊥
+IsOfNoDocument (Outcome.BadQuery at) = ⊥
+IsOfNoDocument Outcome.BadHeader = ⊥
+IsOfNoDocument (Outcome.WrongRoot want made) = ⊥
+IsOfNoDocument (Outcome.WrongKey want made) = ⊥
+IsOfNoDocument (Outcome.StoreShort at) = ⊥
+IsOfNoDocument Outcome.StoreFault = ⊥
+IsOfNoDocument (Outcome.BadFragment index want made) = ⊥
+IsOfNoDocument Outcome.TooManyTags = ⊥
+IsOfNoDocument Outcome.TooLarge = ⊥
+IsOfNoDocument Outcome.BadIndex = Unit {0}
+IsOfNoDocument Outcome.SinkFault = ⊥
+IsOfNoDocument (Outcome.Stopped watcher line) = ⊥

@@ -6,6 +6,7 @@ ghost use Rattle.std.specs.Io.KnownBytes.{IsAtEnd};
 ghost use Rattle.acl_model.specs.Document.{is_document};
 ghost use Rattle.esis_lines.specs.Answers.{TakesUpTo, most_document_bytes};
 ghost use Rattle.file_reading.specs.FileEnds.{OfHeldDocument};
+ghost use Rattle.fragment_open.specs.Checked.{AreOpeningsChecked};
 ghost use Rattle.fragment_open.specs.Told.{Told};
 ghost use Rattle.licence.specs.BodyText.{most_rules};
 ghost use Rattle.skip_encode.specs.EncodedFile.{IsFileOf};
@@ -15,7 +16,8 @@ ghost use Rattle.acl_run.specs.Outcomes.{outcome_of_fault, outcome_of_licence_fa
 ghost use Rattle.acl_run.specs.Outcomes.{outcome_of_encode_fault, outcome_of_file_fault, outcome_of_read_fault};
 ghost use Rattle.acl_run.specs.Readers.{licence_of, keys_of, document_of, with_file, sealed_of, sealed_licence_of, query_of};
 ghost use Rattle.acl_run.specs.Readers.{most_key_bytes, is_within_limits};
-ghost use Rattle.acl_run.specs.Opening.{IsHonestEnd, IsStoreRefused, StoreEnds, ends_opening};
+ghost use Rattle.acl_run.specs.Opening.{IsHonestEnd, IsStoreRefused, IsStoreWithoutDocument, StoreEnds};
+ghost use Rattle.acl_run.specs.Opening.{ends_opening, is_fragment_refused};
 ghost use Rattle.acl_run.specs.Reading.{is_fault_in, is_about_bytes, ends_reading, ends_asking, Answers, AnswersAlone};
 ghost use Rattle.acl_run.specs.Steps.{Question, OrNoMemory};
 
@@ -270,6 +272,11 @@ pub fn read_store<S: Store>(
     ensures told { Told (S.served store.old) (S.served store.new) (StoreEnds result root key) }
     ensures exact { Told (S.served store.old) (S.served store.new)
         (IsStoreRefused result root key) }
+    ensures checked { Told (S.served store.old) (S.served store.new)
+        (AreOpeningsChecked (is_fragment_refused result)) }
+    ensures document { IfOk result (λ doc. is_document doc ≡ true) }
+    ensures shown_index { Told (S.served store.old) (S.served store.new)
+        (IsStoreWithoutDocument result root key) }
     ensures held { OfHeldDocument (S.holds store.old) root key (λ d. MatchResult result
         (λ doc. doc ≡ d)
         (λ outcome. IsHonestEnd (end_of outcome))) }

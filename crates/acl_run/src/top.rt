@@ -6,13 +6,15 @@ ghost use Rattle.std.specs.Bool.{OnTrue, OnFalse};
 ghost use Rattle.std.specs.Io.KnownBytes.{Appends, IsAtEnd};
 ghost use Rattle.acl_outside.specs.Outside.{AppendsPart, AreAllSettled};
 ghost use Rattle.esis_lines.specs.Answers.{TakesUpTo};
+ghost use Rattle.fragment_open.specs.Checked.{AreOpeningsChecked};
 ghost use Rattle.fragment_open.specs.Served.{IsRegular};
 ghost use Rattle.fragment_open.specs.Told.{Told};
 ghost use Rattle.acl_outcome.specs.Ends.{Object, end_of, is_fault_of};
 ghost use Rattle.acl_run.specs.Headline.{HasServedCause, HasStoreCause, IsOfNoBytes, IsRefusedAsServed, IsRefusedAsShown};
-ghost use Rattle.acl_run.specs.Headline.{OfEachDueText, OfHeldText, OfOpened};
+ghost use Rattle.acl_run.specs.Headline.{EndsWithoutDocument, OfEachDueText, OfHeldText, OfOpened, WritesShown};
 ghost use Rattle.acl_run.specs.Lengths.{WhereTooLong, WhereWithin, is_too_long};
 ghost use Rattle.acl_run.specs.Objects.{LeavesSource, LeavesSink, LeavesStore};
+ghost use Rattle.acl_run.specs.Outcomes.{is_bad_fragment_outcome};
 ghost use Rattle.acl_run.specs.Texts.{WritesText, WritesNote, WhereWhole, WhereDone};
 ghost use Rattle.acl_run.specs.Texts.{due_out, due_note};
 ghost use Rattle.acl_words.specs.Words.{words_of};
@@ -116,11 +118,28 @@ pub fn run<K: Source, Q: Source, S: Store, W: Sink, N: Sink>(
         Told (S.served store.old) (S.served store.new) (λ reads.
         OfOpened c secret sealed (λ keys licence wanted.
         IsRefusedAsShown result licence.root keys.document reads))))) }
-    // The same by what the store served alone, whatever the keys and the input tell.
+    // Where all was written, the reads show a document and it is the text that is due of that; reads that show a file
+    // of no document end in BadIndex or in want of memory.
+    ensures read { IfSome (words_of (map string_bytes words.now)) (λ c.
+        IfSome (K.left keys.old) (λ secret. IfSome (Q.left input.old) (λ sealed.
+        Told (S.served store.old) (S.served store.new) (λ reads.
+        OfOpened c secret sealed (λ keys licence wanted.
+        WhereWhole (end_of result) (WritesShown keys licence wanted reads
+        (W.written out.old) (W.written out.new))))))) }
+    ensures no_document { IfSome (words_of (map string_bytes words.now)) (λ c.
+        IfSome (K.left keys.old) (λ secret. IfSome (Q.left input.old) (λ sealed.
+        Told (S.served store.old) (S.served store.new) (λ reads.
+        OfOpened c secret sealed (λ keys licence wanted.
+        EndsWithoutDocument result licence.root keys.document reads))))) }
+    // As far as what the store served alone says it, whatever the keys and the input tell.
     ensures served_cause { Told (S.served store.old) (S.served store.new)
         (HasServedCause result) }
     ensures refused_alone { Told (S.served store.old) (S.served store.new)
         (IsRefusedAsServed result) }
+    // Whatever is answered, each opening but the newest was good, and the newest folds as wanted, unless its fragment
+    // is refused.
+    ensures checked { Told (S.served store.old) (S.served store.new)
+        (AreOpeningsChecked (is_bad_fragment_outcome result)) }
 
     // What is read: each source to its end, or one byte past its limit, and the input only behind good keys. Keys that
     // are too long leave all else untouched; an input that is too long was read past its limit behind all of the keys.

@@ -4,9 +4,10 @@ use Rattle.acl_words.specs.Command.{Command}
 use Rattle.acl_words.specs.Request.{meant_shown}
 use Rattle.acl_words.specs.Words.{words_of}
 use Rattle.acl_run.proofs.Facts.{whatever_told}
+use Rattle.acl_run.specs.Outcomes.{is_bad_fragment_outcome}
 use Rattle.acl_run.specs.Readers.{most_key_bytes}
 use Rattle.acl_run.proofs.Lengths.{long_so, other_end, sample-not_long}
-use Rattle.acl_run.proofs.Served.{encode-not_of_store, preview-not_of_store, sample-not_of_store, seal-not_of_store, served_unasked, unrefused_unasked}
+use Rattle.acl_run.proofs.Served.{encode-not_of_store, preview-not_of_store, sample-not_of_store, seal-not_of_store, served_unasked, unasked_checked, unrefused_unasked}
 use Rattle.acl_run.proofs.TopSteps.{usage_of_taken, where_taken, where_any, where_unread, where_untold, no_note}
 use Rattle.acl_run.proofs.top.run.Goals as goal
 
@@ -234,3 +235,59 @@ returns-in-Some-Sample-clause-served_cause g c =
 pub returns-in-Some-Sample-clause-refused_alone : goal.returns-in-Some-Sample-clause-refused_alone
 returns-in-Some-Sample-clause-refused_alone g c =
     unrefused_unasked c.sample.result (g.S.Store.served c.args.store.now)
+
+-- ---- each opening was checked
+
+pub returns-in-Some-Preview-clause-checked : goal.returns-in-Some-Preview-clause-checked
+returns-in-Some-Preview-clause-checked g c = unasked_checked (is_bad_fragment_outcome c.preview.result) (g.S.Store.served c.args.store.now)
+
+pub returns-in-Some-Encode-clause-checked : goal.returns-in-Some-Encode-clause-checked
+returns-in-Some-Encode-clause-checked g c = unasked_checked (is_bad_fragment_outcome c.encode.result) (g.S.Store.served c.args.store.now)
+
+pub returns-in-Some-Seal-clause-checked : goal.returns-in-Some-Seal-clause-checked
+returns-in-Some-Seal-clause-checked g c = unasked_checked (is_bad_fragment_outcome c.seal.result) (g.S.Store.served c.args.store.now)
+
+pub returns-in-Some-Sample-clause-checked : goal.returns-in-Some-Sample-clause-checked
+returns-in-Some-Sample-clause-checked g c = unasked_checked (is_bad_fragment_outcome c.sample.result) (g.S.Store.served c.args.store.now)
+
+-- ---- of which document the file is
+
+pub returns-in-Some-Preview-clause-read : goal.returns-in-Some-Preview-clause-read
+returns-in-Some-Preview-clause-read g c =
+    where_unread (Command.preview (meant_shown c.in-Some-Preview.shown)) (words_of (map string_bytes c.args.words.now)) (g.K.Source.left c.args.keys.now) (g.Q.Source.left c.args.input.now) (g.S.Store.served c.args.store.now) _ (search rules) (λ secret sealed. tt)
+
+pub returns-in-Some-Preview-clause-no_document : goal.returns-in-Some-Preview-clause-no_document
+returns-in-Some-Preview-clause-no_document g c =
+    where_unread (Command.preview (meant_shown c.in-Some-Preview.shown)) (words_of (map string_bytes c.args.words.now)) (g.K.Source.left c.args.keys.now) (g.Q.Source.left c.args.input.now) (g.S.Store.served c.args.store.now) _ (search rules) (λ secret sealed. tt)
+
+pub returns-in-Some-Encode-clause-read : goal.returns-in-Some-Encode-clause-read
+returns-in-Some-Encode-clause-read g c =
+    where_unread Command.encode (words_of (map string_bytes c.args.words.now)) (g.K.Source.left c.args.keys.now) (g.Q.Source.left c.args.input.now) (g.S.Store.served c.args.store.now) _ (search rules) (λ secret sealed. tt)
+
+pub returns-in-Some-Encode-clause-no_document : goal.returns-in-Some-Encode-clause-no_document
+returns-in-Some-Encode-clause-no_document g c =
+    where_unread Command.encode (words_of (map string_bytes c.args.words.now)) (g.K.Source.left c.args.keys.now) (g.Q.Source.left c.args.input.now) (g.S.Store.served c.args.store.now) _ (search rules) (λ secret sealed. tt)
+
+pub returns-in-Some-Seal-clause-read : goal.returns-in-Some-Seal-clause-read
+returns-in-Some-Seal-clause-read g c =
+    where_unread Command.seal (words_of (map string_bytes c.args.words.now)) (g.K.Source.left c.args.keys.now) (g.Q.Source.left c.args.input.now) (g.S.Store.served c.args.store.now) _ (search rules) (λ secret sealed. tt)
+
+pub returns-in-Some-Seal-clause-no_document : goal.returns-in-Some-Seal-clause-no_document
+returns-in-Some-Seal-clause-no_document g c =
+    where_unread Command.seal (words_of (map string_bytes c.args.words.now)) (g.K.Source.left c.args.keys.now) (g.Q.Source.left c.args.input.now) (g.S.Store.served c.args.store.now) _ (search rules) (λ secret sealed. tt)
+
+pub returns-in-Some-Sample-clause-read : goal.returns-in-Some-Sample-clause-read
+returns-in-Some-Sample-clause-read g c =
+    where_unread (Command.sample c.in-Some-Sample.size) (words_of (map string_bytes c.args.words.now)) (g.K.Source.left c.args.keys.now) (g.Q.Source.left c.args.input.now) (g.S.Store.served c.args.store.now) _ (search rules) (λ secret sealed. tt)
+
+pub returns-in-Some-Sample-clause-no_document : goal.returns-in-Some-Sample-clause-no_document
+returns-in-Some-Sample-clause-no_document g c =
+    where_unread (Command.sample c.in-Some-Sample.size) (words_of (map string_bytes c.args.words.now)) (g.K.Source.left c.args.keys.now) (g.Q.Source.left c.args.input.now) (g.S.Store.served c.args.store.now) _ (search rules) (λ secret sealed. tt)
+
+pub returns-in-Some-View-clause-read : goal.returns-in-Some-View-clause-read
+returns-in-Some-View-clause-read g c =
+    where_taken (Command.view (meant_shown c.in-Some-View.shown)) (words_of (map string_bytes c.args.words.now)) _ (search rules) c.view.ensures.read
+
+pub returns-in-Some-View-clause-no_document : goal.returns-in-Some-View-clause-no_document
+returns-in-Some-View-clause-no_document g c =
+    where_taken (Command.view (meant_shown c.in-Some-View.shown)) (words_of (map string_bytes c.args.words.now)) _ (search rules) c.view.ensures.no_document

@@ -7,17 +7,18 @@ use Rattle.fragment_open.specs.Served.{IsRegular}
 use Rattle.fragment_open.proofs.ClimbLemmas.{Told-weaker}
 use Rattle.file_reading.specs.FileEnds.{FileEnds}
 use Rattle.acl_words.specs.Command.{Command}
-use Rattle.acl_run.specs.Headline.{HasServedCause, HasStoreCause, IsOfNoBytes, IsRefusedAsServed, IsRefusedAsShown}
-use Rattle.acl_run.specs.Opening.{IsStoreRefused, StoreEnds}
+use Rattle.acl_run.specs.Headline.{EndsWithoutDocument, WritesShown, HasServedCause, HasStoreCause, IsOfNoBytes, IsRefusedAsServed, IsRefusedAsShown}
+use Rattle.acl_run.specs.Opening.{IsStoreRefused, IsStoreWithoutDocument, StoreEnds}
+use Rattle.acl_run.specs.Outcomes.{is_bad_fragment_outcome}
 use Rattle.acl_run.specs.Preview.{wanted_by, wanted_text}
 use Rattle.acl_run.specs.Readers.{most_key_bytes}
 use Rattle.acl_words.specs.Request.{meant_shown}
 use Rattle.acl_run.specs.Steps.{OrNoMemory}
 use Rattle.acl_run.specs.Texts.{WhereWhole, WritesText}
-use Rattle.acl_run.proofs.HeadlineLemmas.{cause_anyway, due_anyway, each_due, held_due, prefix_of_none, reads_are, unasked, unshown}
+use Rattle.acl_run.proofs.HeadlineLemmas.{cause_anyway, due_anyway, each_due, held_due, opened_anyway, prefix_of_none, reads_are, unasked, unshown, unshown_document, written_shown}
 use Rattle.acl_run.proofs.HonestEnds.{keys_honest, licence_honest, wanted_honest, store_honest, writing_prefix, writing_whole, writing_honest}
 use Rattle.acl_run.proofs.Lengths.{ends_at_input, keys_end, keys_not_long, long_anyway, opening-not_long, other_end, query-not_long, writing-not_long}
-use Rattle.acl_run.proofs.Served.{refusal_served, refused_alone, served_anyway, served_unasked, unrefused_alone, unrefused_unasked}
+use Rattle.acl_run.proofs.Served.{checked_anyway, refusal_served, refused_alone, served_anyway, served_unasked, unasked_checked, unrefused_alone, unrefused_unasked}
 use Rattle.acl_run.proofs.StoreEnds.{refusal_cause, refusal_regular, refused_so, unrefused_so}
 use Rattle.acl_run.proofs.ViewOrder.{ends_at_keys, ends_at_licence, ends_at_opening, ends_at_showing, ends_at_wanted}
 use Rattle.acl_run.proofs.ViewSteps.{keys-whole, licence-whole, query-whole, store-whole, keys-not_of_store, licence-not_of_store, query-not_of_store, showing-not_of_store}
@@ -315,3 +316,90 @@ returns-clause-refused_alone g c =
     (IsStoreRefused (Ok c.in-Ok-read_store.doc) c.in-Ok-read_sealed_licence.licence.root c.in-Ok.secret.document)
     (IsRefusedAsServed c.show.result) c.in-Ok-read_store.ensures.exact
     (unrefused_alone c.in-Ok-read_store.doc c.show.result c.in-Ok-read_sealed_licence.licence.root c.in-Ok.secret.document)
+
+-- ---- each opening was checked
+
+pub returns-in-Err-clause-checked : goal.returns-in-Err-clause-checked
+returns-in-Err-clause-checked g c = unasked_checked (is_bad_fragment_outcome c.in-Err.outcome) (g.S.Store.served c.args.store.now)
+
+pub returns-in-Err-read_sealed_licence-clause-checked : goal.returns-in-Err-read_sealed_licence-clause-checked
+returns-in-Err-read_sealed_licence-clause-checked g c = unasked_checked (is_bad_fragment_outcome c.in-Err-read_sealed_licence.outcome) (g.S.Store.served c.args.store.now)
+
+pub returns-in-Err-read_wanted-clause-checked : goal.returns-in-Err-read_wanted-clause-checked
+returns-in-Err-read_wanted-clause-checked g c = unasked_checked (is_bad_fragment_outcome c.in-Err-read_wanted.outcome) (g.S.Store.served c.args.store.now)
+
+pub returns-in-Err-read_store-clause-checked : goal.returns-in-Err-read_store-clause-checked
+returns-in-Err-read_store-clause-checked g c = c.in-Err-read_store.ensures.checked
+
+pub returns-clause-checked : goal.returns-clause-checked
+returns-clause-checked g c =
+    checked_anyway (is_bad_fragment_outcome c.show.result) (g.S.Store.served c.args.store.now) (g.S.Store.served c.read_store.new.store)
+    c.in-Ok-read_store.ensures.checked
+
+-- ---- of which document the file is
+
+pub returns-in-Err-clause-read : goal.returns-in-Err-clause-read
+returns-in-Err-clause-read g c =
+    opened_anyway (Command.view (meant_shown c.args.shown)) (g.K.Source.left c.args.keys.now) (g.Q.Source.left c.args.input.now) (g.S.Store.served c.args.store.now) (g.S.Store.served c.args.store.now) IsRegular
+    (λ reads keys licence wanted. WhereWhole (end_of c.in-Err.outcome) (WritesShown keys licence wanted reads (g.W.Sink.written c.args.out.now) (g.W.Sink.written c.args.out.now)))
+    (λ reads k l w. keys-whole (meant_shown c.args.shown) _ (end_of c.in-Err.outcome) c.in-Err.ensures.ends) (unasked (g.S.Store.served c.args.store.now))
+
+pub returns-in-Err-clause-no_document : goal.returns-in-Err-clause-no_document
+returns-in-Err-clause-no_document g c =
+    unshown_document (Command.view (meant_shown c.args.shown)) (g.K.Source.left c.args.keys.now) (g.Q.Source.left c.args.input.now) (g.S.Store.served c.args.store.now) c.in-Err.outcome
+
+pub returns-in-Err-read_sealed_licence-clause-read : goal.returns-in-Err-read_sealed_licence-clause-read
+returns-in-Err-read_sealed_licence-clause-read g c =
+    opened_anyway (Command.view (meant_shown c.args.shown)) (g.K.Source.left c.args.keys.now) (g.Q.Source.left c.args.input.now) (g.S.Store.served c.args.store.now) (g.S.Store.served c.args.store.now) IsRegular
+    (λ reads keys licence wanted. WhereWhole (end_of c.in-Err-read_sealed_licence.outcome) (WritesShown keys licence wanted reads (g.W.Sink.written c.args.out.now) (g.W.Sink.written c.args.out.now)))
+    (λ reads k l w. licence-whole (meant_shown c.args.shown) _ (end_of c.in-Err-read_sealed_licence.outcome) c.in-Err-read_sealed_licence.ensures.ends) (unasked (g.S.Store.served c.args.store.now))
+
+pub returns-in-Err-read_sealed_licence-clause-no_document : goal.returns-in-Err-read_sealed_licence-clause-no_document
+returns-in-Err-read_sealed_licence-clause-no_document g c =
+    unshown_document (Command.view (meant_shown c.args.shown)) (g.K.Source.left c.args.keys.now) (g.Q.Source.left c.args.input.now) (g.S.Store.served c.args.store.now) c.in-Err-read_sealed_licence.outcome
+
+pub returns-in-Err-read_wanted-clause-read : goal.returns-in-Err-read_wanted-clause-read
+returns-in-Err-read_wanted-clause-read g c =
+    opened_anyway (Command.view (meant_shown c.args.shown)) (g.K.Source.left c.args.keys.now) (g.Q.Source.left c.args.input.now) (g.S.Store.served c.args.store.now) (g.S.Store.served c.args.store.now) IsRegular
+    (λ reads keys licence wanted. WhereWhole (end_of c.in-Err-read_wanted.outcome) (WritesShown keys licence wanted reads (g.W.Sink.written c.args.out.now) (g.W.Sink.written c.args.out.now)))
+    (λ reads k l w. query-whole (meant_shown c.args.shown) _ (end_of c.in-Err-read_wanted.outcome) c.in-Err-read_wanted.ensures.ends) (unasked (g.S.Store.served c.args.store.now))
+
+pub returns-in-Err-read_wanted-clause-no_document : goal.returns-in-Err-read_wanted-clause-no_document
+returns-in-Err-read_wanted-clause-no_document g c =
+    unshown_document (Command.view (meant_shown c.args.shown)) (g.K.Source.left c.args.keys.now) (g.Q.Source.left c.args.input.now) (g.S.Store.served c.args.store.now) c.in-Err-read_wanted.outcome
+
+pub returns-in-Err-read_store-clause-read : goal.returns-in-Err-read_store-clause-read
+returns-in-Err-read_store-clause-read g c =
+    opened_anyway (Command.view (meant_shown c.args.shown)) (g.K.Source.left c.args.keys.now) (g.Q.Source.left c.args.input.now) (g.S.Store.served c.args.store.now) (g.S.Store.served c.read_store.new.store) (StoreEnds (Err c.in-Err-read_store.outcome) c.in-Ok-read_sealed_licence.licence.root c.in-Ok.secret.document)
+    (λ reads keys licence wanted. WhereWhole (end_of c.in-Err-read_store.outcome) (WritesShown keys licence wanted reads (g.W.Sink.written c.args.out.now) (g.W.Sink.written c.args.out.now)))
+    (λ reads k l w. store-whole (meant_shown c.args.shown) _ (end_of c.in-Err-read_store.outcome) c.in-Err-read_store.ensures.ends) c.in-Err-read_store.ensures.told
+
+pub returns-in-Err-read_store-clause-no_document : goal.returns-in-Err-read_store-clause-no_document
+returns-in-Err-read_store-clause-no_document g c =
+    reads_are (meant_shown c.args.shown) (g.K.Source.left c.args.keys.now) (g.Q.Source.left c.args.input.now) c.in-Ok.secret c.in-Ok-read_sealed_licence.licence c.in-Ok-read_wanted.wanted
+    (subst (λ (user : List ℕ). wanted_by user (meant_shown c.args.shown) ≡ Ok c.in-Ok-read_wanted.wanted) c.as_slice.ensures c.in-Ok-read_wanted.ensures.answer)
+    c.in-Ok.ensures.answer c.in-Ok-read_sealed_licence.ensures.answer
+    (g.S.Store.served c.args.store.now) (g.S.Store.served c.read_store.new.store) (IsStoreWithoutDocument (Err c.in-Err-read_store.outcome) c.in-Ok-read_sealed_licence.licence.root c.in-Ok.secret.document)
+    (λ reads keys licence wanted. EndsWithoutDocument c.in-Err-read_store.outcome licence.root keys.document reads) c.in-Err-read_store.ensures.shown_index
+    (λ reads only shows. only shows)
+
+pub returns-clause-read : goal.returns-clause-read
+returns-clause-read g c =
+    reads_are (meant_shown c.args.shown) (g.K.Source.left c.args.keys.now) (g.Q.Source.left c.args.input.now) c.in-Ok.secret c.in-Ok-read_sealed_licence.licence c.in-Ok-read_wanted.wanted
+    (subst (λ (user : List ℕ). wanted_by user (meant_shown c.args.shown) ≡ Ok c.in-Ok-read_wanted.wanted) c.as_slice.ensures c.in-Ok-read_wanted.ensures.answer)
+    c.in-Ok.ensures.answer c.in-Ok-read_sealed_licence.ensures.answer
+    (g.S.Store.served c.args.store.now) (g.S.Store.served c.read_store.new.store) (FileEnds (Ok c.in-Ok-read_store.doc) c.in-Ok-read_sealed_licence.licence.root c.in-Ok.secret.document)
+    (λ reads keys licence wanted. WhereWhole (end_of c.show.result) (WritesShown keys licence wanted reads (g.W.Sink.written c.args.out.now) (g.W.Sink.written c.show.new.out))) c.in-Ok-read_store.ensures.told
+    (λ reads read. written_shown (end_of c.show.result) c.in-Ok.secret c.in-Ok-read_sealed_licence.licence c.in-Ok-read_wanted.wanted
+    (g.W.Sink.written c.args.out.now) (g.W.Sink.written c.show.new.out) c.in-Ok-read_store.doc reads c.in-Ok-read_store.ensures.document read
+    (writing_whole (end_of c.show.result) (g.W.Sink.written c.args.out.now) (g.W.Sink.written c.show.new.out) (wanted_text c.in-Ok-read_store.doc c.in-Ok-read_sealed_licence.licence.rules c.in-Ok-read_wanted.wanted) c.show.ensures.ends
+    (subst (λ (rules : List Rule). WritesText (end_of c.show.result) (g.W.Sink.written c.args.out.now) (g.W.Sink.written c.show.new.out) (wanted_text c.in-Ok-read_store.doc rules c.in-Ok-read_wanted.wanted)) c.as_slice-2.ensures c.show.ensures.text)))
+
+pub returns-clause-no_document : goal.returns-clause-no_document
+returns-clause-no_document g c =
+    reads_are (meant_shown c.args.shown) (g.K.Source.left c.args.keys.now) (g.Q.Source.left c.args.input.now) c.in-Ok.secret c.in-Ok-read_sealed_licence.licence c.in-Ok-read_wanted.wanted
+    (subst (λ (user : List ℕ). wanted_by user (meant_shown c.args.shown) ≡ Ok c.in-Ok-read_wanted.wanted) c.as_slice.ensures c.in-Ok-read_wanted.ensures.answer)
+    c.in-Ok.ensures.answer c.in-Ok-read_sealed_licence.ensures.answer
+    (g.S.Store.served c.args.store.now) (g.S.Store.served c.read_store.new.store) (IsStoreWithoutDocument (Ok c.in-Ok-read_store.doc) c.in-Ok-read_sealed_licence.licence.root c.in-Ok.secret.document)
+    (λ reads keys licence wanted. EndsWithoutDocument c.show.result licence.root keys.document reads) c.in-Ok-read_store.ensures.shown_index
+    (λ reads none shows. absurd (none shows))
