@@ -101,10 +101,11 @@ IsRefusedAsShown outcome root key reads = (fault : ReadFault) → IsShown root k
 
 -- ---- why the store was refused, by what it served alone, whatever root and key the run had
 
--- What the reads alone say of a refusal: what came as a header is none; these are the two reads of a start, and came whole, and
--- the root string has another digest than the wanted one, or the header another check than the key; a read came short; all came
--- whole, are unfinished, and the store failed; all came whole, and the newest opening, of this fragment, folds to another digest
--- than the wanted one; or all came whole and show, under some root and key, a whole file of no document.
+-- What the reads alone say of a refusal: what came as a header is none; they are the two of a start,
+-- came whole, and the root string has another digest than the wanted one, or the header another check
+-- than the key; a read came short; all came whole, are unfinished, and the store failed; all came
+-- whole, and the newest opening, of this fragment, folds to another digest than the wanted one; or
+-- all came whole and show, under some root and key, a whole file of no document.
 abbrev pub IsServedCause : ReadFault → List StoreRead → Type 0
 IsServedCause BadHeader reads =
     (map ask_of reads ≡ header_ask ∷ []) × (header_served reads ≡ None) × (list_all is_whole reads ≡ true)
@@ -120,7 +121,8 @@ IsServedCause (BadFragment index want made) reads =
     (list_all is_whole reads ≡ true) × ((before : List ℕ) × (indexes reads ≡ index ∷ before))
     × (folded sha256 reads ≡ Some made) × (wanted sha256 reads ≡ Some want) × (want ≢ made)
 IsServedCause BadIndex reads =
-    (list_all is_whole reads ≡ true) × ((root : List ℕ) × (key : List ℕ) × ShowsNoDocument root key reads)
+    (list_all is_whole reads ≡ true)
+    × ((root : List ℕ) × (key : List ℕ) × ShowsNoDocument root key reads)
 
 -- An outcome that speaks of the store has what the reads alone say of its cause.
 abbrev pub HasServedCause : Outcome → List StoreRead → Type 0
@@ -148,7 +150,8 @@ IsRefusedAsServed outcome reads = (fault : ReadFault) → IsServedFault fault re
 
 -- ---- of which document a file is, by what the store served
 
--- The reads show a document under the licence's root and the document key, and what was written is the text that is due of it.
+-- The reads show a document under the licence's root and the document key, and what was written is the
+-- text that is due of it.
 pub record WritesShown (keys : Keys) (licence : Licence) (wanted : Wanted) (reads : List StoreRead) (before after : Option (List ℕ)) : Type 0 where
   pub d : Doc
   pub document : is_document d ≡ true

@@ -11,7 +11,8 @@ ghost use Rattle.fragment_open.specs.Served.{IsRegular};
 ghost use Rattle.fragment_open.specs.Told.{Told};
 ghost use Rattle.acl_outcome.specs.Ends.{Object, end_of, is_fault_of};
 ghost use Rattle.acl_run.specs.Headline.{HasServedCause, HasStoreCause, IsOfNoBytes, IsRefusedAsServed, IsRefusedAsShown};
-ghost use Rattle.acl_run.specs.Headline.{EndsWithoutDocument, OfEachDueText, OfHeldText, OfOpened, WritesShown};
+ghost use Rattle.acl_run.specs.Headline.{EndsWithoutDocument, WritesShown};
+ghost use Rattle.acl_run.specs.Headline.{OfEachDueText, OfHeldText, OfOpened};
 ghost use Rattle.acl_run.specs.Lengths.{WhereTooLong, WhereWithin, is_too_long};
 ghost use Rattle.acl_run.specs.Objects.{LeavesSource, LeavesSink, LeavesStore};
 ghost use Rattle.acl_run.specs.Outcomes.{is_bad_fragment_outcome};
@@ -118,8 +119,8 @@ pub fn run<K: Source, Q: Source, S: Store, W: Sink, N: Sink>(
         Told (S.served store.old) (S.served store.new) (λ reads.
         OfOpened c secret sealed (λ keys licence wanted.
         IsRefusedAsShown result licence.root keys.document reads))))) }
-    // Where all was written, the reads show a document and it is the text that is due of that; reads that show a file
-    // of no document end in BadIndex or in want of memory.
+    // Where all was written, the reads show a document and it is the text that is due of that;
+    // reads that show a file of no document end in BadIndex or in want of memory.
     ensures read { IfSome (words_of (map string_bytes words.now)) (λ c.
         IfSome (K.left keys.old) (λ secret. IfSome (Q.left input.old) (λ sealed.
         Told (S.served store.old) (S.served store.new) (λ reads.
@@ -136,8 +137,8 @@ pub fn run<K: Source, Q: Source, S: Store, W: Sink, N: Sink>(
         (HasServedCause result) }
     ensures refused_alone { Told (S.served store.old) (S.served store.new)
         (IsRefusedAsServed result) }
-    // Whatever is answered, each opening but the newest was good, and the newest folds as wanted, unless its fragment
-    // is refused.
+    // Whatever is answered, each opening but the newest was good, and the newest folds as wanted,
+    // unless its fragment is refused.
     ensures checked { Told (S.served store.old) (S.served store.new)
         (AreOpeningsChecked (is_bad_fragment_outcome result)) }
 
