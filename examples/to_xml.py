@@ -1,15 +1,27 @@
 #!/usr/bin/env python3
-"""Writes XML of the lines of a document or a view: examples/to_xml.py <FILE.out >FILE.xml
+"""Writes XML of the lines of a document or a view: examples/to_xml.py [--namespaces FILE] [NAME] <FILE.out >FILE.xml
 
-`-`, the name of an element that is kept only for what is inside it, is no name of XML: it becomes `hidden`, or the name
-that is given as a word. Instructions (`?` lines) are left out. Status 1: the lines are none of a document or a view, or
-nothing is shown; and nothing is written.
+`-`, the name of an element that is kept only for what is inside it, is no name of XML: it becomes `hidden`, or NAME.
+Instructions (`?` lines) are left out.
+
+A view lacks the namespaces that elements declare which it doesn't show. FILE has those of the document, as examples/xml.sh
+writes them. What the view uses of them is declared at its outermost element: a prefix that stands in a name, or with a
+colon behind it in a text or a value, and the default namespace where an element without a prefix is shown.
+
+Status 1: the lines are none of a document or a view, FILE isn't of that document, or nothing is shown; and nothing is
+written. 2: the words are not as above, or FILE can't be read.
 """
+import argparse
+import os
 import re
 import sys
 
 NAME = re.compile(rb"[A-Za-z_:\x80-\xff][A-Za-z0-9_:.\x80-\xff-]*")
-HIDDEN = sys.argv[1].encode() if len(sys.argv) == 2 else b"hidden"
+# A line of a file of namespaces: a prefix, or `-` for the default namespace, and a URI.
+DECLARATION = re.compile(rb"(-|[A-Za-z_\x80-\xff][A-Za-z0-9_.\x80-\xff-]*) ([!-~]+)\n")
+# It takes each run of letters whole, so a text is looked through once.
+WORD = re.compile(rb"[A-Za-z0-9_.\x80-\xff-]+:?")
+XML, XMLNS = b"http://www.w3.org/XML/1998/namespace", b"http://www.w3.org/2000/xmlns/"
 # A line break, a backslash, and a byte by its three octal digits, as onsgmls writes them.
 ESCAPE = re.compile(rb"\\n\\012|\\n|\\\\|\\([0-3][0-7]{2})")
 MARKUP = {b"&": b"&amp;", b"<": b"&lt;", b">": b"&gt;", b"\r": b"&#13;"}
@@ -28,11 +40,62 @@ def fail(what):
     sys.exit(f"to_xml.py: {what}")
 
 
-def xml_of(lines):
-    made, waiting, open_names = [], [], []
+def text_of(name):
+    return ascii(name.decode("utf-8", "backslashreplace"))
+
+
+def namespaces_in(lines):
+    """The URI of each prefix, b"" for the default namespace, by the lines of FILE. Nobody vouches for them.
+
+    `xml` alone has its URI, also where it isn't declared, and neither `xmlns` nor its URI is ever declared (Namespaces in
+    XML 1.0, section 3).
+    """
+    found = {b"xml": XML}
+    for number, line in enumerate(lines, 1):
+        declared = DECLARATION.fullmatch(line)
+        prefix, uri = declared.groups() if declared else (b"xmlns", b"")
+        if prefix == b"xmlns" or uri == XMLNS or (prefix == b"xml") != (uri == XML):
+            fail(f"line {number} of the namespaces is no declaration")
+        if found.setdefault(b"" if prefix == b"-" else prefix, uri) != uri:
+            fail(f"line {number} of the namespaces gives {text_of(prefix)} another meaning")
+    return found
+
+
+def declarations_for(lines, namespaces, hidden):
+    """What the outermost element lacks, as attributes of XML."""
+    used, words, at_root, started = {hidden.rpartition(b":")[0]} - {b""}, set(), {b"xml"}, False
+    for kind, rest in ((line[:1], line[1:]) for line in lines):
+        text = rest if kind == b"-" else b""
+        if kind == b"(":
+            started = True
+            if rest != b"-":
+                used.add(rest.rpartition(b":")[0])
+        elif kind == b"A":
+            name, given, text = (rest.split(b" ", 2) + [b"", b""])[:3]
+            if given == b"IMPLIED":
+                continue
+            prefix, _, local = name.rpartition(b":")
+            if prefix == b"xmlns" or name == b"xmlns":
+                declared = local if prefix else b""
+                if namespaces.get(declared, b"") != plain(text):
+                    fail(f"the namespaces are of another document: here {text_of(name)} has another meaning")
+                if not started:
+                    at_root.add(declared)
+            elif prefix:
+                used.add(prefix)
+        if b":" in text:
+            words.update(word[:-1] for word in WORD.findall(plain(text)) if word.endswith(b":"))
+    for prefix in sorted(used - namespaces.keys() - {b""}):
+        fail(f"the namespaces are of another document: they lack the prefix {text_of(prefix)}")
+    return [b' %s="%s"' % (b"xmlns:" + prefix if prefix else b"xmlns", escaped(namespaces[prefix], IN_VALUES))
+            for prefix in sorted((used | words) & namespaces.keys() - at_root)]
+
+
+def xml_of(lines, hidden, declarations):
+    made, waiting, open_names = [], declarations, []
     for number, line in enumerate(lines, 1):
         kind, rest = line[:1], line[1:]
-        name = HIDDEN if rest == b"-" else rest
+        name = hidden if rest == b"-" else rest
         if kind in (b"(", b")") and not NAME.fullmatch(name):
             fail(f"line {number} has no name of XML")
         if kind == b"A":
@@ -58,10 +121,23 @@ def xml_of(lines):
 
 
 def main():
-    if len(sys.argv) > 2 or not NAME.fullmatch(HIDDEN) or b"." in HIDDEN:
-        fail("usage: examples/to_xml.py [NAME] <FILE.out >FILE.xml")
+    words = argparse.ArgumentParser(usage="examples/to_xml.py [--namespaces FILE] [NAME] <FILE.out >FILE.xml")
+    words.add_argument("--namespaces")
+    words.add_argument("name", nargs="?", default="hidden", type=os.fsencode)
+    given = words.parse_args()
+    if not NAME.fullmatch(given.name) or b"." in given.name:
+        words.error("NAME is no name of XML without points")
     lines = sys.stdin.buffer.read().split(b"\n")
-    sys.stdout.buffer.write(xml_of(lines[:-1] if lines[-1] == b"" else lines))
+    lines = lines[:-1] if lines[-1] == b"" else lines
+    declarations = []
+    if given.namespaces is not None:
+        try:
+            with open(given.namespaces, "rb") as file:
+                namespaces = namespaces_in(file)
+        except OSError as fault:
+            words.error(f"{given.namespaces}: {fault.strerror}")
+        declarations = declarations_for(lines, namespaces, given.name)
+    sys.stdout.buffer.write(xml_of(lines, given.name, declarations))
 
 
 main()

@@ -1,8 +1,10 @@
 #!/usr/bin/env bash
-# Writes the lines of an XML file, in the form in which `acl` reads a document: examples/xml.sh FILE.xml >FILE.esis
+# Writes the lines of an XML file, in the form in which `acl` reads a document: examples/xml.sh [OPTION..] FILE.xml >FILE.esis
 #
-# XML can name other files of this machine, a DTD or an entity, whose text would stand in the document. Such a file is
-# refused, unless `--with-files` stands before its name.
+#   --with-files         the XML may name other files of this machine, a DTD or an entity, whose text would stand in the
+#                        document. Such a file is refused without this option
+#   --namespaces MADE    the file MADE gets the namespaces that the XML declares, as docs/TOOLS.md says: examples/to_xml.py
+#                        puts them into XML of a view. XML in which a prefix has two meanings is refused then
 #
 # `xmllint` reads the XML: it refuses what isn't well formed, puts entities in their places, adds the default attributes
 # of a DTD, drops the DTD and writes UTF-8. So nothing is left of notations and of entities that aren't text, for which
@@ -11,8 +13,8 @@
 # that an element lacks and another one of its name has before it, `onsgmls` writes a line too, with the type IMPLIED.
 # Such lines are left out: in a view they would tell of elements that it doesn't show.
 #
-# Status 0: the lines are on standard output. 1: the file is refused, and nothing is written. 2: a tool is missing, or
-# no file is named.
+# Status 0: the lines are on standard output. 1: the file is refused, and nothing is written. 2: a tool is missing, no
+# file is named, or MADE can't be written. 65: its namespaces are refused, and nothing is written.
 set -u
 export LC_ALL=C
 
@@ -21,14 +23,24 @@ fail() {
     exit "$1"
 }
 
+tools=(xmllint onsgmls)
 with_files=no
-if [ "${1-}" = --with-files ]; then
-    with_files=yes
+namespaces=
+while [ "$#" -gt 1 ]; do
+    case $1 in
+        --with-files) with_files=yes ;;
+        --namespaces)
+            namespaces=$2
+            tools+=(python3)
+            shift
+            ;;
+        *) break ;;
+    esac
     shift
-fi
-[ "$#" -eq 1 ] || fail 2 "usage: examples/xml.sh [--with-files] FILE.xml"
-for tool in xmllint onsgmls; do
-    command -v "$tool" >/dev/null || fail 2 "$tool is missing: it is in Debian's packages libxml2-utils (xmllint) and opensp (onsgmls)"
+done
+[ "$#" -eq 1 ] || fail 2 "usage: examples/xml.sh [--with-files] [--namespaces MADE] FILE.xml"
+for tool in "${tools[@]}"; do
+    command -v "$tool" >/dev/null || fail 2 "$tool is missing: Debian's packages are libxml2-utils (xmllint), opensp (onsgmls) and python3"
 done
 here=$(cd "$(dirname "$0")" && pwd) || exit 2
 case "$1" in
@@ -50,4 +62,11 @@ SP_CHARSET_FIXED=YES SP_ENCODING=iso-8859-1 onsgmls -wno-valid "$here/xml.dcl" "
 if other=$(grep -a -n -m 1 -v '^[()A?L#C-]' "$made/lines"); then
     fail 1 "$1 has what acl doesn't read, by onsgmls: line $other"
 fi
-grep -a -v '^A[^ ]* IMPLIED$' "$made/lines"
+grep -a -v '^A[^ ]* IMPLIED$' "$made/lines" >"$made/document"
+if [ -n "$namespaces" ]; then
+    python3 "$here/../tools/parts/namespaces.py" <"$made/document" >"$made/namespaces" 2>"$made/refused" ||
+        fail "$?" "$1: $(tail -n 1 "$made/refused")"
+    ! grep -a -q ':[0-9]*: namespace error : ' "$made/said" || fail 65 "$1 has namespaces that xmllint refuses"
+    cat "$made/namespaces" >"$namespaces" || fail 2 "$namespaces can't be written"
+fi
+cat "$made/document"

@@ -1,61 +1,78 @@
 #!/usr/bin/env python3
-"""Writes the namespaces that the lines of a document declare: namespaces.py NAME <FILE.esis >FILE.namespaces
+"""Writes the namespaces that the lines of a document declare: namespaces.py <FILE.esis >FILE.namespaces
 
-A declaration a line: a prefix, `-` for the default namespace, a space and the URI with the escapes of the lines. Status 65:
-a prefix has two meanings or none, and nothing is written.
+A line has a prefix, or `-` for the default namespace, a space and the URI. Status 65: a prefix has two meanings, or none
+where it is used; standard error says which, and nothing is written.
 """
 import sys
+from collections import Counter
+
+from plain_text import shown
 
 
 class BadNamespaces(Exception):
     """A prefix with two meanings or with none."""
 
 
-def said(uri):
-    return "none" if uri == b"" else f"'{uri.decode('utf-8', 'backslashreplace')}'"
+class Declarations:
+    """The URI of each prefix that was declared so far; the default namespace has the prefix b"", and no namespace the URI b""."""
+
+    def __init__(self):
+        self.uris = {}
+        # How many open elements declare a prefix. `xml` needs no declaration (Namespaces in XML 1.0, section 3).
+        self.around = Counter([b"xml"])
+
+    def mean(self, prefix, uri):
+        known = self.uris.setdefault(prefix, uri)
+        if known != uri:
+            name = f"the prefix '{shown(prefix)}'" if prefix else "the default namespace"
+            one, other = (f"'{shown(each)}'" if each else "none" for each in (known, uri))
+            raise BadNamespaces(f"{name} has two meanings: {one} and {other}")
+
+    def start(self, name, declared, prefixes):
+        """Goes into an element with what it declares and the prefixes of its attributes."""
+        for prefix, uri in declared.items():
+            self.mean(prefix, uri)
+        self.around.update(list(declared))
+        prefix = name.rpartition(b":")[0]
+        if not prefix:
+            self.mean(b"", self.uris[b""] if self.around[b""] else b"")
+        for used in filter(None, [prefix, *prefixes]):
+            if not self.around[used]:
+                raise BadNamespaces(f"the prefix '{shown(used)}' is declared nowhere around '{shown(name)}'")
 
 
-def declarations_of(lines):
-    """The URI of each prefix. `xml` and `xmlns` are bound without a declaration (Namespaces in XML 1.0, section 3)."""
-    found, waiting, used, around = {}, {}, [], [{b"xml": None}]
-
-    def mean(prefix, uri):
-        if found.setdefault(prefix, uri) != uri:
-            name = f"the prefix '{prefix.decode()}'" if prefix else "the default namespace"
-            raise BadNamespaces(f"{name} has two meanings: {said(found[prefix])} and {said(uri)}")
-
+def namespaces_of(lines):
+    """The prefixes of a document with their URIs."""
+    found, open_elements, declared, prefixes = Declarations(), [], {}, []
     for line in lines:
-        kind = line[:1]
+        kind, rest = line[:1], line[1:].rstrip(b"\n")
         if kind == b"A":
-            name, _, value = (line[1:].split(b" ", 2) + [b""])[:3]
-            prefix, colon, local = name.rpartition(b":")
-            if name == b"xmlns" or prefix == b"xmlns":
-                waiting[local if colon else b""] = value
-            elif colon:
-                used.append(prefix)
+            name, _, value = (rest.split(b" ", 2) + [b""])[:3]
+            prefix, _, local = name.rpartition(b":")
+            if prefix == b"xmlns" or name == b"xmlns":
+                declared[local if prefix else b""] = value
+            else:
+                prefixes.append(prefix)
         elif kind == b"(":
-            scope = {**around[-1], **waiting} if waiting else around[-1]
-            for prefix, uri in waiting.items():
-                if prefix != b"xml":
-                    mean(prefix, uri)
-            prefix = line[1:].rpartition(b":")[0]
-            if not prefix:
-                mean(b"", scope.get(b"", b""))
-            for prefix in [prefix, *used]:
-                if prefix and prefix not in scope:
-                    raise BadNamespaces(f"the prefix '{prefix.decode()}' is declared nowhere around '{line[1:].decode()}'")
-            around.append(scope)
-            waiting, used = {}, []
+            declared.pop(b"xml", None)
+            found.start(rest, declared, prefixes)
+            open_elements.append(list(declared))
+            declared, prefixes = {}, []
         elif kind == b")":
-            around.pop()
-    return {prefix: uri for prefix, uri in found.items() if uri}
+            found.around.subtract(open_elements.pop())
+    return {prefix: uri for prefix, uri in found.uris.items() if uri}
+
+
+def main():
+    try:
+        namespaces = namespaces_of(sys.stdin.buffer)
+    except BadNamespaces as fault:
+        print(fault, file=sys.stderr)
+        sys.exit(65)
+    for prefix, uri in sorted(namespaces.items()):
+        sys.stdout.buffer.write(b"%s %s\n" % (prefix or b"-", uri))
 
 
 if __name__ == "__main__":
-    try:
-        declared = declarations_of(sys.stdin.buffer.read().split(b"\n"))
-    except BadNamespaces as fault:
-        print(f"xml.sh: {sys.argv[1]}: {fault}", file=sys.stderr)
-        sys.exit(65)
-    for prefix, uri in sorted(declared.items()):
-        sys.stdout.buffer.write(b"%s %s\n" % (prefix or b"-", uri))
+    main()
