@@ -3,9 +3,9 @@
 # on what they must refuse, each with its status. What needs a package that is missing is skipped, and says so.
 . "$(dirname "$0")/on_program.sh"
 export ACL=$PWD/$program
-for tool in xmllint onsgmls; do
+for tool in xmllint onsgmls python3; do
     if ! command -v "$tool" >/dev/null; then
-        echo "tools/ was skipped: $tool is missing (Debian's libxml2-utils and opensp)"
+        echo "tools/ was skipped: $tool is missing (Debian's libxml2-utils, opensp and python3)"
         exit 0
     fi
 done
@@ -137,6 +137,37 @@ cp "$folder/ana.rules" "$folder/ana"
 try "two bodies of one licence" 2 "ana.licence would be the licence of two bodies" publish "$keys" "a ward.xml" ana.rules ana
 left "refusals" "a ward.xml" cut.xml ana.rules ana
 try "no program" 69 "publish.sh: nowhere is missing" env ACL=nowhere "$tools/publish.sh" keys hospital.xml doctor.rules
+
+# Namespaces: views without the element that declares them are XML that has them, and an edition without any leaves none.
+begin
+scan() {
+    try "$1" 0 "" read_view "$keys" scans.acl ana.licence --namespaces scans.namespaces "${@:3}"
+    same "$1" "$made/out" <(echo "$2")
+    xmllint --noout "$made/out" 2>"$made/error" && [ ! -s "$made/error" ] || complain "$1" "xmllint has something to say of it"
+}
+xlink=http://www.w3.org/1999/xlink
+echo "<h:ward xmlns:h='urn:h' xmlns:x='$xlink' xmlns:z='urn:z'><h:scan x:href='7'>arm</h:scan><z:z/></h:ward>" >"$folder/scans.xml"
+body ana.rules "licence 1" "user Ana" "+ scans //h:scan"
+try "prefixes" 0 "scans.namespaces: made, for tools/read.sh --namespaces" publish "$keys" scans.xml ana.rules
+left "prefixes" "a ward.xml" scans.xml scans.acl scans.namespaces ana.rules ana.licence
+same "prefixes" "$folder/scans.namespaces" <(printf '%s\n' "h urn:h" "x $xlink" "z urn:z")
+wanted="<hidden xmlns:h=\"urn:h\" xmlns:x=\"$xlink\"><h:scan x:href=\"7\">arm</h:scan></hidden>"
+scan "prefixes as XML" "$wanted"
+scan "prefixes of a query" "$wanted" --query //h:scan
+cp "$folder/scans.namespaces" "$folder/of prefixes"
+echo "<ward xmlns='urn:d'><scan>arm</scan><name/></ward>" >"$folder/scans.xml"
+body ana.rules "licence 1" "user Ana" "+ scans //scan"
+try "a default namespace" 0 "" publish "$keys" scans.xml ana.rules
+scan "a default namespace as XML" '<hidden xmlns="urn:d"><scan>arm</scan></hidden>'
+echo "<ward><h:scan xmlns:h='urn:h'/><h:scan xmlns:h='urn:i'/></ward>" >"$folder/scans.xml"
+body ana.rules "licence 1" "user Ana" "+ scans //h:scan"
+try "two URIs" 65 "xml.sh: scans.xml: the prefix 'h' has two meanings: 'urn:h' and 'urn:i'" publish "$keys" scans.xml ana.rules
+try "two URIs, what to do" 65 "publish.sh: to publish it without its namespaces: --no-namespaces" publish "$keys" scans.xml ana.rules
+same "two URIs" "$folder/scans.namespaces" <(echo "- urn:d")
+try "two URIs where it is meant" 0 "scans.namespaces: removed" publish --no-namespaces "$keys" scans.xml ana.rules
+left "two URIs where it is meant" "a ward.xml" scans.xml scans.acl ana.rules ana.licence "of prefixes"
+try "no namespaces" 2 "read.sh: nowhere is no file that can be read" read_view "$keys" scans.acl ana.licence --namespaces nowhere
+try "namespaces of another document" 1 "here 'xmlns:h' has another meaning" read_view "$keys" scans.acl ana.licence --namespaces "of prefixes"
 
 # Many documents, where one of them is refused; then that one again, mended.
 if command -v parallel >/dev/null; then

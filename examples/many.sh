@@ -5,9 +5,9 @@
 #   examples/many.sh --make N FOLDER                                            makes N documents to try it on
 #
 # For FOLDER/NAME.xml the folder OUT/NAME gets NAME.acl, a copy of each reader's body with the root of that file, his licence,
-# and what publish.sh said, NAME.said. A document that is refused gets OUT/NAME.refused with the reason in place of them, and
+# what publish.sh said, NAME.said, and where the document declares namespaces NAME.namespaces. A document that is refused gets OUT/NAME.refused with the reason in place of them, and
 # is listed at the end.
-# The options before KEYS, --allow-idle and --with-files, are those of tools/publish.sh.
+# The options before KEYS, --allow-idle, --with-files and --no-namespaces, are those of tools/publish.sh.
 #
 # OUT/jobs is the log of parallel. A run that was stopped goes on where it was when it is started again with the same words;
 # `-- --resume-failed` tries again what was refused, too. Other machines take part where they have the same folders and
@@ -32,7 +32,7 @@ top=$(dirname -- "$(dirname -- "$self")")
 . "$top/tools/parts.sh" || exit 2
 
 usage() {
-    fail "$usage_status" "usage: examples/many.sh [--allow-idle] [--with-files] KEYS FOLDER OUT READER.rules.. [-- OPTION..]
+    fail "$usage_status" "usage: examples/many.sh [--allow-idle] [--with-files] [--no-namespaces] KEYS FOLDER OUT READER.rules.. [-- OPTION..]
                 examples/many.sh --make N FOLDER"
 }
 
@@ -116,7 +116,7 @@ case ${1-} in
 esac
 
 options=()
-while [[ ${1-} == --allow-idle || ${1-} == --with-files ]]; do
+while [[ ${1-} == --allow-idle || ${1-} == --with-files || ${1-} == --no-namespaces ]]; do
     options+=("$1")
     shift
 done

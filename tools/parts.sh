@@ -6,8 +6,8 @@ export LC_ALL=C
 # The program: `acl` on the path, or the one that ACL names.
 acl=${ACL:-acl}
 
-# The scripts' own statuses. Those from 1 to 41 are of `acl` and of examples/xml.sh.
-readonly usage_status=2 missing_status=69 no_fuse_status=77
+# The scripts' own statuses. Those from 1 to 41 are of `acl` and of examples/xml.sh, which has 65 too.
+readonly usage_status=2 bad_namespaces_status=65 missing_status=69 no_fuse_status=77
 
 # Ends the script with the status $1 and says why.
 fail() {

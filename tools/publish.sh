@@ -5,24 +5,31 @@
 # will see, warns of rules that do nothing, and seals the bodies: READER.licence stands beside READER.rules. Nothing is
 # moved to its place before everything is made, so a refusal leaves all files as they were.
 #
-#   -o DIR        DOCUMENT.acl goes into the folder DIR, and not beside the document
-#   --allow-idle  a denial that selects nothing is warned of, and doesn't end the script
-#   --with-files  the document may take in other files of this machine, as examples/xml.sh says
+# A document that declares namespaces gets DOCUMENT.namespaces beside DOCUMENT.acl, for tools/read.sh. Where it declares none,
+# such a file of an earlier edition is removed.
 #
-# It needs `acl` on the path, or its place in ACL, and Debian's libxml2-utils (xmllint) and opensp (onsgmls).
+#   -o DIR           DOCUMENT.acl goes into the folder DIR, and not beside the document
+#   --allow-idle     a denial that selects nothing is warned of, and doesn't end the script
+#   --with-files     the document may take in other files of this machine, as examples/xml.sh says
+#   --no-namespaces  no DOCUMENT.namespaces is made, and a prefix may have two meanings, or none
+#
+# It needs `acl` on the path, or its place in ACL, Debian's libxml2-utils (xmllint) and opensp (onsgmls), and python3, which it
+# doesn't need with --no-namespaces.
 #
 # Status 0: all is published. 1: a denial selects nothing, or examples/xml.sh refuses the document. 2: the words are not as
-# above, or a file can't be read or made. 69: a tool is missing. Else that of `acl`, which docs/FORMATS.md lists.
+# above, or a file can't be read or made. 65: examples/xml.sh refuses its namespaces. 69: a tool is missing. Else that of `acl`,
+# which docs/FORMATS.md lists.
 . "$(dirname -- "$(readlink -f -- "$0")")/parts.sh" || exit 2
 top=$(dirname -- "$(dirname -- "$(readlink -f -- "$0")")")
 
 usage() {
-    fail "$usage_status" "usage: tools/publish.sh [-o DIR] [--allow-idle] [--with-files] KEYS DOCUMENT.xml READER.rules.."
+    fail "$usage_status" "usage: tools/publish.sh [-o DIR] [--allow-idle] [--with-files] [--no-namespaces] KEYS DOCUMENT.xml READER.rules.."
 }
 
 folder=
 allow_idle=no
 with_files=()
+with_namespaces=yes
 words=()
 while [ "$#" -gt 0 ]; do
     case $1 in
@@ -33,6 +40,7 @@ while [ "$#" -gt 0 ]; do
             ;;
         --allow-idle) allow_idle=yes ;;
         --with-files) with_files=(--with-files) ;;
+        --no-namespaces) with_namespaces=no ;;
         --)
             shift
             words+=("$@")
@@ -51,12 +59,14 @@ for body in "${words[@]:2}"; do bodies+=("$(plain_name "$body")"); done
 
 need xmllint "it is in Debian's package libxml2-utils"
 need onsgmls "it is in Debian's package opensp"
+[ "$with_namespaces" = no ] || need python3 "it is in Debian's package python3. Without it: --no-namespaces"
 need_acl
 for file in "$document" "${bodies[@]}"; do
     [ -f "$file" ] && [ -r "$file" ] || fail "$usage_status" "$file is no file that can be read"
 done
 store=${document%.xml}.acl
 [ -z "$folder" ] || store=$(plain_name "$folder")/${store##*/}
+namespaces=${store%.acl}.namespaces
 
 licences=()
 for body in "${bodies[@]}"; do licences+=("${body%.rules}.licence"); done
@@ -182,13 +192,30 @@ move() {
     mv -f -T -- "$1" "$2" || fail "$usage_status" "$2 could not be put in its place"
 }
 
-"$top/examples/xml.sh" "${with_files[@]}" "$document" >"$made/lines" || exit
+# Writes the lines of the document and its namespaces, of which there are none where they aren't wanted.
+write_lines() {
+    local options=("${with_files[@]}") status
+    [ "$with_namespaces" = no ] || options+=(--namespaces "$made/namespaces")
+    : >"$made/namespaces"
+    "$top/examples/xml.sh" "${options[@]}" "$document" >"$made/lines"
+    status=$?
+    [ "$status" -ne "$bad_namespaces_status" ] || fail "$status" "to publish it without its namespaces: --no-namespaces"
+    [ "$status" -eq 0 ] || exit "$status"
+}
+
+write_lines
 make_beside "$store"
 file=$new
 step "$document" encode "$keys" <"$made/lines" >"$file"
 root=$(sed -n 's/^root \([0-9a-f]\{64\}\)$/\1/p' "$made/said")
 [ -n "$root" ] || fail "$usage_status" "acl encode didn't say the root of $document"
 
+new_namespaces=
+if [ -s "$made/namespaces" ]; then
+    make_beside "$namespaces"
+    new_namespaces=$new
+    cat "$made/namespaces" >"$new" || exit "$usage_status"
+fi
 new_bodies=()
 new_licences=()
 for at in "${!bodies[@]}"; do
@@ -209,6 +236,13 @@ fi
 
 move "$file" "$store"
 echo "$store: made, its root is $root"
+if [ -n "$new_namespaces" ]; then
+    move "$new_namespaces" "$namespaces"
+    echo "$namespaces: made, for tools/read.sh --namespaces"
+elif [ -f "$namespaces" ]; then
+    rm -f -- "$namespaces" || exit "$usage_status"
+    echo "$namespaces: removed, it was of an earlier edition"
+fi
 for at in "${!bodies[@]}"; do
     cmp -s "${new_bodies[at]}" "${bodies[at]}" || move "${new_bodies[at]}" "$(readlink -f -- "${bodies[at]}")"
     move "${new_licences[at]}" "${licences[at]}"
