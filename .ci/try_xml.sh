@@ -123,7 +123,7 @@ view_declares "prefixes" 'h urn:h?a&b\ni urn:i\nx urn:x\n' \
     '<hidden xmlns:h="urn:h?a&amp;b" xmlns:x="urn:x"><h:b x:k="1"></h:b></hidden>' '(-' 'Ax:k CDATA 1' '(h:b' ')h:b' ')-'
 view_declares "the default namespace" '- urn:d\n' '<hidden xmlns="urn:d"><b></b></hidden>' '(-' '(b' ')b' ')-'
 view_declares "an element without a prefix" 'h urn:h\n' '<hidden><b></b></hidden>' '(-' '(b' ')b' ')-'
-view_declares "prefixes alone" '- urn:d\nh urn:h\n' '<hidden xmlns:h="urn:h"><h:b></h:b></hidden>' '(-' '(h:b' ')h:b' ')-'
+view_declares "prefixes alone" '- urn:d\nh urn:h\n' '<hidden xmlns:h="urn:h"><h:b>: c</h:b></hidden>' '(-' '(h:b' '-: c' ')h:b' ')-'
 view_declares "a root that declares some" '- urn:d\nh urn:h\n' '<a xmlns:h="urn:h" xmlns="urn:d"><h:b></h:b></a>' \
     'Axmlns CDATA urn:d' '(a' '(h:b' ')h:b' ')a'
 view_declares "prefixes in a text and in a value" 'h urn:h\ni urn:i\nj urn:j\n' '<a xmlns:h="urn:h" xmlns:i="urn:i" k="(i:b)">h:b, j</a>' \

@@ -19,8 +19,8 @@ import sys
 NAME = re.compile(rb"[A-Za-z_:\x80-\xff][A-Za-z0-9_:.\x80-\xff-]*")
 # A line of a file of namespaces: a prefix, or `-` for the default namespace, and a URI.
 DECLARATION = re.compile(rb"(-|[A-Za-z_\x80-\xff][A-Za-z0-9_.\x80-\xff-]*) ([!-~]+)\n")
-# It takes each run of letters whole, so a text is looked through once.
-WORD = re.compile(rb"[A-Za-z0-9_.\x80-\xff-]+:?")
+# A space in place of each byte that is neither of a name nor a colon.
+NAMES_ALONE = bytes(byte if byte >= 0x80 or chr(byte).isalnum() or byte in b"_.-:" else 0x20 for byte in range(256))
 XML, XMLNS = b"http://www.w3.org/XML/1998/namespace", b"http://www.w3.org/2000/xmlns/"
 # A line break, a backslash, and a byte by its three octal digits, as onsgmls writes them.
 ESCAPE = re.compile(rb"\\n\\012|\\n|\\\\|\\([0-3][0-7]{2})")
@@ -84,11 +84,12 @@ def declarations_for(lines, namespaces, hidden):
             elif prefix:
                 used.add(prefix)
         if b":" in text:
-            words.update(word[:-1] for word in WORD.findall(plain(text)) if word.endswith(b":"))
+            before_colons = plain(text).translate(NAMES_ALONE).split(b":")[:-1]
+            words.update(before.rpartition(b" ")[2] for before in before_colons)
     for prefix in sorted(used - namespaces.keys() - {b""}):
         fail(f"the namespaces are of another document: they lack the prefix {text_of(prefix)}")
     return [b' %s="%s"' % (b"xmlns:" + prefix if prefix else b"xmlns", escaped(namespaces[prefix], IN_VALUES))
-            for prefix in sorted((used | words) & namespaces.keys() - at_root)]
+            for prefix in sorted((used | words - {b""}) & namespaces.keys() - at_root)]
 
 
 def xml_of(lines, hidden, declarations):
