@@ -36,8 +36,9 @@ def calls(crate):
     found = []
     for file in sources(crate):
         owner = None
-        # a record in a clause ends no head of a function
-        text = re.sub(r"^( +\w+ = .*);$|(\(record) \{$", r"\1\2", file.read_text(), flags=re.M)
+        # neither a comment nor a record in a clause ends the head of a function
+        text = re.sub(r"^ *//.*$", "", file.read_text(), flags=re.M)
+        text = re.sub(r"^( +\w+ = .*);$|(\(record) \{$", r"\1\2", text, flags=re.M)
         heads = list(re.finditer(r"^(?:pub )?(?:impl\b[^{]*|trait (\w+)[^{]*)\{|^\}", text, re.M))
         for fn in re.finditer(r"^( *)(?:pub(?:\([^)]*\))? )?fn (\w+)(.*?)(?:^\1\{|;$|\{$)", text, re.M | re.S):
             owner = None
