@@ -21,8 +21,8 @@ TICKS = os.sysconf("SC_CLK_TCK")
 def stat_of(process):
     """A process's parent, when it started, and its processor seconds, or None if it is gone."""
     try:
-        # the name in parentheses may have spaces
-        fields = (process / "stat").read_text().rpartition(") ")[2].split()
+        # the name in parentheses may have any bytes
+        fields = (process / "stat").read_bytes().rpartition(b") ")[2].split()
     except OSError:
         return None
     return int(fields[1]), fields[19], sum(int(it) for it in fields[11:15]) / TICKS
