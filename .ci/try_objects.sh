@@ -1,6 +1,6 @@
 #!/usr/bin/env bash
-# Tries what the built program does with words, files and streams that are not as they should be: the number that it ends
-# with, its line on standard error, and what it wrote.
+# Tries what the built program does with faulty arguments, files and streams: its status, its line on standard error, and
+# what it wrote.
 . "$(dirname "$0")/on_program.sh"
 
 # What is tried, the outcome that is wanted, and a command line in which `acl` is the program. Nothing may be written.
@@ -13,7 +13,7 @@ try() {
     [ ! -s "$made/out" ] || { echo "acl, $1: something on standard output"; wrong=1; }
 }
 
-# the same, of a run whose standard error can't be written: its number alone
+# the same, for a run whose standard error can't be written: its status alone
 try_number() {
     acl() { "$program" "$@"; }
     eval "$3"
@@ -21,10 +21,10 @@ try_number() {
     [ "$status" = "$2" ] || { echo "acl, $1: status $status in place of $2"; wrong=1; }
 }
 
-try "a word behind the last" "2 Usage" "acl preview doctor.rules more <hospital.esis"
-try "a word behind an option" "2 Usage" "acl view keys hospital.file --query /a more <doctor.licence"
-try "a word that is no text" "2 Usage" "acl preview $'doctor\\xff.rules' <hospital.esis"
-try "a command that is no text" "2 Usage" "acl $'\\xff' <hospital.esis"
+try "an argument after the last" "2 Usage" "acl preview doctor.rules more <hospital.esis"
+try "an argument after an option" "2 Usage" "acl view keys hospital.file --query /a more <doctor.licence"
+try "an argument that is not UTF-8" "2 Usage" "acl preview $'doctor\\xff.rules' <hospital.esis"
+try "a command that is not UTF-8" "2 Usage" "acl $'\\xff' <hospital.esis"
 mkfifo "$made/pipe" || exit 2
 # Who opens a pipe that nobody writes to waits for ever.
 for words in "fly PIPE" "view PIPE" "encode PIPE more" "view keys PIPE more" "sample PIPE"; do
@@ -41,7 +41,7 @@ try "a closed input" "18 SourceFault" "acl preview doctor.rules <&-"
 try "a closed input of a licence" "18 SourceFault" "acl view keys hospital.file <&-"
 try "a folder as input" "18 SourceFault" "acl preview doctor.rules <."
 
-# The mistakes that docs/FORMATS.md tells of, in documents and in bodies.
+# The mistakes that docs/FORMATS.md describes, in documents and in bodies.
 lines() { printf '%b\n' "$@"; }
 root="root 192458bf220db5d92fd62d4af0d3cecb63490b62c211eba93d9f548995a1a1d0"
 try "XML" "10 BadLine line=1" "acl preview doctor.rules <ward.xml"
@@ -63,7 +63,7 @@ try "a body that is not sealed" "22 BadLicence line=1" "acl view keys hospital.f
 try "a licence that is sealed already" "22 BadLicence line=1" "acl seal keys <doctor.licence"
 try "keys and store swapped" "25 BadKeys line=1" "acl view hospital.file keys <doctor.licence"
 try "keys with carriage returns" "25 BadKeys line=1" "sed 's/$/\\r/' keys >$made/returns; acl seal $made/returns <doctor.rules"
-try "a licence as a word" "2 Usage" "acl view keys hospital.file doctor.licence <nothing.out"
+try "a licence as an argument" "2 Usage" "acl view keys hospital.file doctor.licence <nothing.out"
 try "a query without a slash" "26 BadQuery at=0" "acl view keys hospital.file --query Act <doctor.licence"
 
 try "a full output" "40 SinkFault" "acl preview doctor.rules <hospital.esis >/dev/full"
@@ -71,10 +71,10 @@ try "a closed output" "40 SinkFault" "acl preview doctor.rules <hospital.esis >&
 try "a full output of a view" "40 SinkFault" "acl view keys hospital.file <doctor.licence >/dev/full"
 try "a closed output of a view" "40 SinkFault" "acl view keys hospital.file <doctor.licence >&-"
 try "a full output of a file, and no root" "40 SinkFault" "acl encode keys <hospital.esis >/dev/full"
-try_number "a full standard error behind a file" 4 "acl encode keys <hospital.esis 2>/dev/full >$made/file"
+try_number "a full standard error after a file" 4 "acl encode keys <hospital.esis 2>/dev/full >$made/file"
 cmp -s "$made/file" hospital.file || { echo "acl, a full standard error: not the whole file"; wrong=1; }
-try_number "a closed standard error behind a file" 4 "acl encode keys <hospital.esis 2>&- >$made/file"
+try_number "a closed standard error after a file" 4 "acl encode keys <hospital.esis 2>&- >$made/file"
 cmp -s "$made/file" hospital.file || { echo "acl, a closed standard error: not the whole file"; wrong=1; }
-try_number "a full standard error behind a refusal" 34 "acl view keys nowhere.file <doctor.licence 2>/dev/full"
-[ "$wrong" -eq 0 ] && echo "Words, files and streams that are not as they should be are each named."
+try_number "a full standard error after a refusal" 34 "acl view keys nowhere.file <doctor.licence 2>/dev/full"
+[ "$wrong" -eq 0 ] && echo "Faulty arguments, files and streams each get their outcome."
 exit "$wrong"

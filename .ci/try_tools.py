@@ -104,14 +104,14 @@ my shop.rules:5: warning: the comparison 'price>10' is with a whole number, and 
     ended, written, _ = check("two.rules")
     trials.expect("denials first", [line.split(": ")[0] for line in written.splitlines() if "selects nothing" in line],
                   ["two.rules:5", "two.rules:4"])
-    trials.expect("a rule behind another", "two.rules:7: warning: 'again' decides nowhere: it selects 1 element, "
+    trials.expect("a rule after another", "two.rules:7: warning: 'again' decides nowhere: it selects 1 element, "
                   "and there another rule decides\n" in written, True)
     trials.put("none.rules", body_of())
     trials.expect("no rules", check("none.rules"), (0, "none.rules: user Ana, 0 rules, on the shop.esis with 7 elements\n\n"
                                                     "The view is empty: nothing is shown.\n", ""))
     trials.put("bad.rules", body_of("+ a book"))
     trials.expect("a path that is refused", check("bad.rules")[:2], (2, ""))
-    trials.expect("its name", "bad.rules: a path begins with" in check("bad.rules")[2], True)
+    trials.expect("its name", "bad.rules: a path must begin with" in check("bad.rules")[2], True)
     trials.expect("no document", check("my shop.rules", "no\x1bthing"),
                   (2, "", "check_rules.py: no\\x1bthing: No such file or directory\n"))
     trials.expect("no document's lines", check("my shop.rules", "my shop.rules")[:2], (2, ""))

@@ -1,14 +1,16 @@
 #!/usr/bin/env bash
-# Reads a file that lies on a web server: examples/from_web.sh [FOLDERS]
+# Reads a file that is on a web server: examples/from_web.sh [FOLDERS]
 #
-# `acl` reads its store as a file, so what brings the bytes is any file system. Here `nginx` serves a file on a port of this
-# machine, `rclone mount` shows it as a file, and `acl view` reads it. It says how many bytes were asked of the server. Then a
-# byte is changed on the server: nothing is shown. The file is that of a sample of FOLDERS folders, 2000 where none are given.
+# `acl` reads its store as a file, so any file system can bring the bytes. Here `nginx` serves a file on a port of this
+# machine, `rclone mount` mounts it as a file, and `acl view` reads it. The script prints how many bytes the server
+# sent. Then it changes a byte on the server, and nothing is shown. The file is that of a sample of FOLDERS folders; the
+# default is 2000.
 #
-# It needs `acl` on the path, or its place in ACL, Debian's nginx, rclone and fuse3, and a machine that lets a program mount.
+# It needs `acl` on the path, or its path in ACL, and Debian's nginx, rclone, fuse3 and python3. The machine must let a
+# program mount a file system.
 #
-# Status 0: the views were as they should be. 1: one was not. 2: the words are not as above, or a server didn't start. 69: a
-# tool is missing. 77: there is no FUSE here.
+# Status 0: the views were right. 1: one was not. 2: the arguments are not as above, or a server didn't start. 69: a
+# tool is missing. 77: this machine has no FUSE.
 here=$(dirname -- "$(readlink -f -- "$0")")
 . "$here/../tools/parts.sh" || exit 2
 export PATH=$PATH:/usr/sbin
@@ -35,7 +37,7 @@ trap 'exit 130' INT
 trap 'exit 143' TERM
 trap 'exit 129' HUP
 
-# Waits at most ten seconds for what the words say.
+# Repeats the command in the arguments until it succeeds, for at most ten seconds.
 wait_for() {
     local tries=100
     until "$@" 2>/dev/null; do
@@ -47,7 +49,7 @@ wait_for() {
 
 answers() { exec 3<>"/dev/tcp/127.0.0.1/$port" && exec 3>&-; }
 
-# The bytes that the server sent since its log had $1 lines.
+# Prints how many requests and bytes the server answered since its log had $1 lines.
 sent() { tail -n "+$(($1 + 1))" "$made/log" | awk '{ sum += $1 } END { print NR " requests, " sum + 0 " bytes" }'; }
 
 mkdir "$made/web" "$made/mount"
@@ -81,7 +83,8 @@ END
 nginx -c "$made/conf" -e "$made/errors" &
 server=$!
 wait_for answers || fail 2 "nginx didn't start: $(tail -n 1 "$made/errors")"
-# `acl` goes back and forth between fragments and digests. Left alone `rclone` asks for the rest of the file at each jump.
+# `acl` goes back and forth between fragments and digests. By default `rclone` asks for the rest of the file at each
+# jump.
 rclone mount --config "" --read-only --vfs-cache-mode off --buffer-size 0 --vfs-read-chunk-size 64k --vfs-read-chunk-size-limit 64k \
     --http-url "http://127.0.0.1:$port" :http: "$made/mount" >"$made/mount.said" 2>&1 &
 mounted=$!
@@ -92,13 +95,13 @@ fi
 
 before=$(wc -l <"$made/log")
 "$acl" view "$here/keys" "$made/mount/hospital.acl" <"$made/licence" >"$made/view" || fail 1 "the view was refused"
-cmp -s "$made/view" "$made/wanted" || fail 1 "the view is another than that of the rules"
+cmp -s "$made/view" "$made/wanted" || fail 1 "the view is not the one that the rules allow"
 sleep 0.5
-echo "The view of the file on the server has $(wc -l <"$made/view") lines, as the rules say. Its first ones:"
+echo "The view of the file on the server has $(wc -l <"$made/view") lines, as it should. The first ones are:"
 head -n 12 "$made/view"
-echo "The file has $(wc -c <"$made/web/hospital.acl") bytes; the server was asked by $(sent "$before")."
+echo "The file has $(wc -c <"$made/web/hospital.acl") bytes; the server sent, in $(sent "$before")."
 
-# one bit of the byte a quarter into the file
+# Change one bit of the byte that is a quarter of the way into the file.
 python3 -c '
 import sys
 with open(sys.argv[1], "r+b") as file:

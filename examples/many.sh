@@ -1,32 +1,32 @@
 #!/usr/bin/env bash
-# Publishes each XML document of a folder by tools/publish.sh, as many at a time as there are processors:
+# Publishes each XML document of a folder with tools/publish.sh, as many at a time as there are processors:
 #
-#   examples/many.sh [OPTION..] KEYS FOLDER OUT READER.rules.. [-- OPTION..]    the last options are of GNU parallel
+#   examples/many.sh [OPTION..] KEYS FOLDER OUT READER.rules.. [-- OPTION..]    the last options are those of GNU parallel
 #   examples/many.sh --make N FOLDER                                            makes N documents to try it on
 #
-# For FOLDER/NAME.xml the folder OUT/NAME gets NAME.acl, a copy of each reader's body with the root of that file, his licence,
-# what publish.sh said, NAME.said, and where the document declares namespaces NAME.namespaces. A document that is refused gets OUT/NAME.refused with the reason in place of them, and
-# is listed at the end.
-# The options before KEYS, --allow-idle, --with-files and --no-namespaces, are those of tools/publish.sh.
+# For FOLDER/NAME.xml it makes in the folder OUT/NAME: NAME.acl; a copy of each reader's body with the root of that
+# file; each reader's licence; NAME.said with the output of publish.sh; and NAME.namespaces where the document declares
+# some. For a document that is refused it makes only OUT/NAME.refused with the reason, and lists the document at the
+# end. The options before KEYS are those of tools/publish.sh: --allow-idle, --with-files and --no-namespaces.
 #
-# OUT/jobs is the log of parallel. A run that was stopped goes on where it was when it is started again with the same words;
-# `-- --resume-failed` tries again what was refused, too. Other machines take part where they have the same folders and
-# programs, by a network file system: `-- --sshlogin 16/one,16/two`.
+# OUT/jobs is the log of parallel. A run that was stopped continues when it is started again with the same arguments;
+# `-- --resume-failed` also tries refused documents again. Other machines can help if they have the same folders and
+# programs by a network file system: `-- --sshlogin 16/one,16/two`.
 #
-# All documents go under one document key: who holds the store sees where two of them have the same 16 bytes at the same
-# place. Where that must not be seen, call tools/publish.sh with keys for each.
+# All documents are enciphered under one document key. So whoever has the store sees where two of them have the same 16
+# bytes at the same byte offset. If that must not be seen, call tools/publish.sh with new keys for each document.
 #
-# Readers share nothing but files, so whatever starts processes can run them:
+# Readers share nothing but files, so anything that starts processes can run them:
 #
 #   find OUT -name '*.acl' | parallel 'tools/read.sh KEYS {} {//}/READER.licence >{.}.xml'
 #   find OUT -name '*.acl' -print0 | xargs -0 -P 8 -I{} sh -c 'tools/read.sh KEYS "$1" "${1%/*}/READER.licence" >"$1.xml"' - {}
 #   systemd-run --user --wait --pipe -p MemoryMax=2G tools/read.sh KEYS OUT/NAME/NAME.acl OUT/NAME/READER.licence >NAME.xml
 #
-# It needs `acl` on the path, or its place in ACL, and Debian's parallel, libxml2-utils (xmllint) and opensp (onsgmls).
+# It needs `acl` on the path, or its path in ACL, and Debian's parallel, libxml2-utils (xmllint) and opensp (onsgmls).
 #
-# Status 0: all documents are published. 1: some were refused, or are left since the run was stopped. 2: the words are not as
-# above, a file can't be read or made, another run makes OUT, or FOLDER has other documents than when OUT was begun. 69: a
-# tool is missing.
+# Status 0: all documents are published. 1: some were refused, or are left because the run was stopped. 2: the arguments
+# are not as above, a file can't be read or made, another run is writing to OUT, or FOLDER has other documents than when
+# OUT was begun. 69: a tool is missing.
 self=$(readlink -f -- "$0")
 top=$(dirname -- "$(dirname -- "$self")")
 . "$top/tools/parts.sh" || exit 2
@@ -36,7 +36,7 @@ usage() {
                 examples/many.sh --make N FOLDER"
 }
 
-# Makes $1 documents in the folder $2, each with names of its own.
+# Makes $1 documents in the folder $2, each with its own names of patients.
 make_documents() {
     [[ $1 =~ ^[1-9][0-9]{0,5}$ ]] || usage
     need python3 "it is in Debian's package python3"
@@ -49,7 +49,8 @@ make_documents() {
     done
 }
 
-# One job: publishes the document $3 into the folder $2/NAME. After it come options of publish.sh and the bodies.
+# One job: publishes the document $3 to the folder $2/NAME. $1 are the keys. The options of publish.sh and the bodies
+# follow.
 publish_one() {
     local keys=$1 out=$2 document=$3 name said status
     name=$(basename -- "$document" .xml)
@@ -81,12 +82,12 @@ publish_one() {
     rm -f -- "$out/$name.refused"
 }
 
-# For each job of parallel's log its number and the status of its last try, or the signal that ended it.
+# Prints for each job in parallel's log its number, and the status of its last try or the signal that ended it.
 last_status() {
     awk -F '\t' 'NR > 1 { last[$1] = $7 != 0 ? $7 : $8 } END { for (at in last) print at, last[at] }' "$1" | sort -n
 }
 
-# Lists the documents that are refused, with what was said of each, and counts. False where some aren't published.
+# Lists the refused documents with the reasons, and prints the counts. False if some documents aren't published.
 list_refused() {
     local number status name made warned left refused=0
     while read -r number status; do
@@ -145,19 +146,19 @@ shopt -s nullglob
 documents=("$folder"/*.xml)
 [ "${#documents[@]}" -gt 0 ] || fail "$usage_status" "$folder has no file whose name ends in .xml"
 
-# One run at a time, so what an earlier one left half made is nobody's.
+# One run at a time. So no run uses what an earlier one left unfinished, and it can be removed.
 exec 9>"$out/.lock" || exit "$usage_status"
 flock -n 9 || fail "$usage_status" "another run makes $out"
 rm -rf -- "$out"/.publish.*
 
-# `parallel` goes on by the numbers of jobs, so they must be of the same documents.
+# `parallel` resumes by job number, so the numbers must stand for the same documents.
 printf '%s\0' "${documents[@]}" >"$out/.documents.new" || exit "$usage_status"
 if [ -e "$out/jobs" ] && ! cmp -s "$out/.documents" "$out/.documents.new"; then
     rm -f -- "$out/.documents.new"
     fail "$usage_status" "$folder is not as it was when $out was begun: take another folder for what is made"
 fi
 mv -f -T -- "$out/.documents.new" "$out/.documents" || exit "$usage_status"
-# Stopped, it has its jobs clear away what they made: they have ten seconds for it.
+# If it is stopped, its jobs have ten seconds to remove what they made.
 parallel --joblog "$out/jobs" --resume --termseq TERM,10000,KILL,25 "$@" -q -0 -a "$out/.documents" \
     env "ACL=$acl" "$self" --one "$keys" "$out" {} "${options[@]}" "${bodies[@]}" &
 queue=$!

@@ -1,15 +1,15 @@
 #!/usr/bin/env python3
-"""Writes XML of the lines of a document or a view: examples/to_xml.py [--namespaces FILE] [NAME] <FILE.out >FILE.xml
+"""Writes the lines of a document or a view as XML: examples/to_xml.py [--namespaces FILE] [NAME] <FILE.out >FILE.xml
 
-`-`, the name of an element that is kept only for what is inside it, is no name of XML: it becomes `hidden`, or NAME.
-Instructions (`?` lines) are left out.
+An element that is kept only for what is inside it has the name `-`, which is no name in XML. It gets the name `hidden`,
+or NAME. Instructions (`?` lines) are left out.
 
-A view lacks the namespaces that elements declare which it doesn't show. FILE has those of the document, as examples/xml.sh
-writes them. What the view uses of them is declared at its outermost element: a prefix that stands in a name, or with a
-colon behind it in a text or a value, and the default namespace where an element without a prefix is shown.
+A view lacks the namespaces that are declared by elements which it doesn't show. FILE has those of the document, as
+examples/xml.sh writes them. The outermost element declares those that the view uses: a prefix in a name, a prefix that
+is followed by a colon in a text or a value, and the default namespace where an element without a prefix is shown.
 
-Status 1: the lines are none of a document or a view, FILE isn't of that document, or nothing is shown; and nothing is
-written. 2: the words are not as above, or FILE can't be read.
+Status 1: the lines are not those of a document or a view, FILE is of another document, or nothing is shown. Nothing is
+written then. 2: the arguments are not as above, or FILE can't be read.
 """
 import argparse
 import os
@@ -19,7 +19,7 @@ import sys
 NAME = re.compile(rb"[A-Za-z_:\x80-\xff][A-Za-z0-9_:.\x80-\xff-]*")
 # A line of a file of namespaces: a prefix, or `-` for the default namespace, and a URI.
 DECLARATION = re.compile(rb"(-|[A-Za-z_\x80-\xff][A-Za-z0-9_.\x80-\xff-]*) ([!-~]+)\n")
-# A space in place of each byte that is neither of a name nor a colon.
+# A table that replaces each byte that is neither part of a name nor a colon by a space.
 NAMES_ALONE = bytes(byte if byte >= 0x80 or chr(byte).isalnum() or byte in b"_.-:" else 0x20 for byte in range(256))
 XML, XMLNS = b"http://www.w3.org/XML/1998/namespace", b"http://www.w3.org/2000/xmlns/"
 # A line break, a backslash, and a byte by its three octal digits, as onsgmls writes them.
@@ -29,10 +29,12 @@ IN_VALUES = {**MARKUP, b'"': b"&quot;", b"\n": b"&#10;", b"\t": b"&#9;"}
 
 
 def plain(text):
+    """A text or a value with the escapes of onsgmls replaced by what they mean."""
     return ESCAPE.sub(lambda found: bytes([int(found[1], 8)]) if found[1] else b"\\" if found[0] == b"\\\\" else b"\n", text)
 
 
 def escaped(text, table):
+    """A text with its bytes replaced as the table says."""
     return b"".join(table.get(byte, byte) for byte in (text[i:i + 1] for i in range(len(text))))
 
 
@@ -45,24 +47,24 @@ def text_of(name):
 
 
 def namespaces_in(lines):
-    """The URI of each prefix, b"" for the default namespace, by the lines of FILE. Nobody vouches for them.
+    """The URI of each prefix, from the lines of FILE. The prefix b"" is the default namespace. No line is trusted.
 
-    `xml` alone has its URI, also where it isn't declared, and neither `xmlns` nor its URI is ever declared (Namespaces in
-    XML 1.0, section 3).
+    `xml` has its URI even where it isn't declared, and no other prefix has it. Neither `xmlns` nor its URI is ever
+    declared (Namespaces in XML 1.0, section 3).
     """
     found = {b"xml": XML}
     for number, line in enumerate(lines, 1):
         declared = DECLARATION.fullmatch(line)
         prefix, uri = declared.groups() if declared else (b"xmlns", b"")
         if prefix == b"xmlns" or uri == XMLNS or (prefix == b"xml") != (uri == XML):
-            fail(f"line {number} of the namespaces is no declaration")
+            fail(f"line {number} of the namespaces is not a declaration")
         if found.setdefault(b"" if prefix == b"-" else prefix, uri) != uri:
             fail(f"line {number} of the namespaces gives {text_of(prefix)} another meaning")
     return found
 
 
 def declarations_for(lines, namespaces, hidden):
-    """What the outermost element lacks, as attributes of XML."""
+    """The declarations that the outermost element lacks, as attributes of XML."""
     used, words, at_root, started = {hidden.rpartition(b":")[0]} - {b""}, set(), {b"xml"}, False
     for kind, rest in ((line[:1], line[1:]) for line in lines):
         text = rest if kind == b"-" else b""
@@ -93,16 +95,17 @@ def declarations_for(lines, namespaces, hidden):
 
 
 def xml_of(lines, hidden, declarations):
+    """The XML, with the name `hidden` in place of `-`, and the declarations at the outermost element."""
     made, waiting, open_names = [], declarations, []
     for number, line in enumerate(lines, 1):
         kind, rest = line[:1], line[1:]
         name = hidden if rest == b"-" else rest
         if kind in (b"(", b")") and not NAME.fullmatch(name):
-            fail(f"line {number} has no name of XML")
+            fail(f"line {number} has no valid XML name")
         if kind == b"A":
             parts = rest.split(b" ", 2)
             if len(parts) < 2 or not NAME.fullmatch(parts[0]):
-                fail(f"line {number} is no attribute")
+                fail(f"line {number} is not an attribute")
             if parts[1] != b"IMPLIED":
                 value = escaped(plain(parts[2] if len(parts) > 2 else b""), IN_VALUES)
                 waiting.append(b' %s="%s"' % (parts[0], value))
@@ -115,7 +118,7 @@ def xml_of(lines, hidden, declarations):
         elif kind == b"-" and open_names:
             made.append(escaped(plain(rest), MARKUP))
         elif kind not in (b"?", b"L", b"#", b"C"):
-            fail(f"line {number} is none of a document or a view")
+            fail(f"line {number} is not a line of a document or a view")
     if open_names or not made:
         fail("nothing is shown" if not made else "the end is missing")
     return b"".join(made) + b"\n"
@@ -127,7 +130,7 @@ def main():
     words.add_argument("name", nargs="?", default="hidden", type=os.fsencode)
     given = words.parse_args()
     if not NAME.fullmatch(given.name) or b"." in given.name:
-        words.error("NAME is no name of XML without points")
+        words.error("NAME is not an XML name without dots")
     lines = sys.stdin.buffer.read().split(b"\n")
     lines = lines[:-1] if lines[-1] == b"" else lines
     declarations = []

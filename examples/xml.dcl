@@ -1,7 +1,7 @@
 <!SGML -- XML 1.0 over bytes, as a declaration of ISO 8879 with its annex for the Web. --
 "ISO 8879:1986 (WWW)"
 
--- Each byte is a character by itself, so that whatever Unicode assigns comes through as it stands. --
+-- Each byte is a character by itself, so that all characters of Unicode come through unchanged. --
 CHARSET
   BASESET "ISO Registration Number 177//CHARSET ISO/IEC 10646-1:1993 UCS-4 with implementation level 3//ESC 2/5 2/15 4/6"
   DESCSET 0 9 UNUSED 9 2 9 11 2 UNUSED 13 1 13 14 18 UNUSED 32 224 32

@@ -1,20 +1,21 @@
 #!/usr/bin/env bash
-# Writes the lines of an XML file, in the form in which `acl` reads a document: examples/xml.sh [OPTION..] FILE.xml >FILE.esis
+# Writes an XML file as the lines that `acl` reads as a document: examples/xml.sh [OPTION..] FILE.xml >FILE.esis
 #
-#   --with-files         the XML may name other files of this machine, a DTD or an entity, whose text would stand in the
-#                        document. Such a file is refused without this option
-#   --namespaces MADE    the file MADE gets the namespaces that the XML declares, as docs/TOOLS.md says: examples/to_xml.py
-#                        puts them into XML of a view. XML in which a prefix has two meanings is refused then
+#   --with-files         the XML may include other files of this machine, a DTD or an entity, whose text becomes part of
+#                        the document. Without this option, XML that includes a file is refused
+#   --namespaces MADE    write the namespaces that the XML declares to the file MADE, in the form of docs/TOOLS.md.
+#                        examples/to_xml.py declares them in XML of a view. XML in which a prefix has two meanings is
+#                        refused
 #
-# `xmllint` reads the XML: it refuses what isn't well formed, puts entities in their places, adds the default attributes
-# of a DTD, drops the DTD and writes UTF-8. So nothing is left of notations and of entities that aren't text, for which
-# `onsgmls` would write lines that `acl` refuses. `onsgmls` then writes the lines, byte by byte, by the declaration
-# beside this script. It ends them with `C` where it has seen all of the document and found no fault. Of an attribute
-# that an element lacks and another one of its name has before it, `onsgmls` writes a line too, with the type IMPLIED.
-# Such lines are left out: in a view they would tell of elements that it doesn't show.
+# `xmllint` reads the XML first. It refuses what isn't well formed, replaces entities by their texts, adds the default
+# attributes of a DTD, drops the DTD and writes UTF-8. So no notations are left, and no entities that aren't text, for
+# which `onsgmls` would write lines that `acl` refuses. `onsgmls` then writes the lines, byte by byte, by the
+# declaration beside this script. Its last line is `C` if it read the whole document and found no fault. It also writes
+# a line of the type IMPLIED for each attribute that an element lacks and an earlier element of the same name had. These
+# lines are left out: in a view they would reveal elements that it doesn't show.
 #
 # Status 0: the lines are on standard output. 1: the file is refused, and nothing is written. 2: a tool is missing, no
-# file is named, or MADE can't be written. 65: its namespaces are refused, and nothing is written.
+# file is named, or MADE can't be written. 65: the namespaces are refused, and nothing is written.
 set -u
 export LC_ALL=C
 
@@ -56,11 +57,11 @@ read=$?
 grep -v '^Loaded URL=' "$made/said" >&2
 [ "$read" -eq 0 ] || fail 1 "$1 isn't well formed"
 others=$(sed -n 's/^Loaded URL="\(.*\)" ID=.*/\1/p' "$made/said" | tail -n +2 | paste -sd ' ')
-[ -z "$others" ] || [ "$with_files" = yes ] || fail 1 "$1 takes in other files of this machine: $others. If they are meant: examples/xml.sh --with-files $1"
+[ -z "$others" ] || [ "$with_files" = yes ] || fail 1 "$1 includes other files of this machine: $others. To allow them: examples/xml.sh --with-files $1"
 SP_CHARSET_FIXED=YES SP_ENCODING=iso-8859-1 onsgmls -wno-valid "$here/xml.dcl" "$made/xml" >"$made/lines"
-[ "$(tail -n 1 "$made/lines")" = C ] || fail 1 "onsgmls didn't get through $1: there is no C at the end of its lines"
+[ "$(tail -n 1 "$made/lines")" = C ] || fail 1 "onsgmls didn't read $1 to its end: its last line isn't C"
 if other=$(grep -a -n -m 1 -v '^[()A?L#C-]' "$made/lines"); then
-    fail 1 "$1 has what acl doesn't read, by onsgmls: line $other"
+    fail 1 "$1 has something that acl doesn't read. The output of onsgmls has the line $other"
 fi
 grep -a -v '^A[^ ]* IMPLIED$' "$made/lines" >"$made/document"
 if [ -n "$namespaces" ]; then

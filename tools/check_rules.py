@@ -1,9 +1,9 @@
 #!/usr/bin/env python3
 """Checks the rules of a licence body against a document, before they are sealed.
 
-Writes for each rule how many elements it selects and at how many it decides, how many lines the
-view has, and warnings: for rules that select nothing (denials first), for names in paths that the
-document hasn't, and for numbers that meet values such as 12.50.
+It prints how many elements each rule selects and at how many it decides, and how many lines the
+view has. It warns of rules that select nothing (denials first), of names in paths that the document
+doesn't have, and of comparisons between a number and a value such as 12.50.
 
 Status 0: no denial selects nothing. 1: some denial selects nothing. 2: a file can't be read, or
 acl refuses it; nothing is written to standard output.
@@ -11,7 +11,7 @@ acl refuses it; nothing is written to standard output.
 import os
 import sys
 
-# The shared parts, and not this folder: inspect.py would be taken for Python's own module.
+# Import from parts/, and not from this folder: Python would take inspect.py for its own module.
 sys.path[0] = os.path.join(os.path.dirname(os.path.abspath(__file__)), "parts")
 
 import argparse
@@ -26,7 +26,7 @@ from rule_facts import Facts, Unfitting
 
 
 def findings_of(facts, selected, decided, document):
-    """What is found, with denials that select nothing first."""
+    """The findings, with denials that select nothing first."""
     rules, names = facts.body.rules, Names(document)
     idle = [rule for rule, count in zip(rules, selected) if count == 0]
     found = [nothing_selected(rule) for rule in sorted(idle, key=lambda rule: rule.sign == "+")]
@@ -63,7 +63,7 @@ def report(arguments):
     data = Path(arguments.document).read_bytes()
     body = Path(arguments.rules).read_bytes()
     previews = Previews(found_program(arguments.acl), data, arguments.document)
-    # `acl` reads the document first, so that what it refuses is refused in its own words.
+    # `acl` reads the document first, so that a refusal has its message.
     previews.view(body, arguments.rules)
     document = Document(data)
     facts = Facts(previews, document, body, arguments.rules)

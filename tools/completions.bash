@@ -1,7 +1,7 @@
-# Completions of acl for bash: its commands, options and files. Source this file, or install it as
+# Bash completions for acl: its commands, options and files. Source this file, or install it as
 # ~/.local/share/bash-completion/completions/acl. .ci/try_words.sh compares it with the program.
 
-# Leaves in `given` the words before the one that is completed, without redirections.
+# Sets `given` to the arguments before the one that is completed, without redirections.
 _acl_given() {
     local word after=
     given=()
@@ -16,7 +16,7 @@ _acl_given() {
     done
 }
 
-# What an empty COMPREPLY leaves to bash are files. Where none belong, that is switched off.
+# Bash completes files where COMPREPLY is empty. This call turns that off, where no file is expected.
 _acl_no_files() {
     compopt +o default 2>/dev/null
 }
@@ -41,7 +41,8 @@ _acl() {
     esac
     [ "${#given[@]}" -le "$files" ] && return
     _acl_no_files
-    # Each option stands once, --query and --explain not together, and P is a path of XPath.
+    # One option may be given at most: each once, and --query not with --explain. After --query comes an XPath, and no
+    # file.
     for option in "${given[@]:files+1}"; do
         case $option in --query | --query=* | --explain) return ;; esac
     done

@@ -1,10 +1,10 @@
 #!/usr/bin/env python3
-"""Puts names beside the places of an explanation: acl preview RULES --explain <DOCUMENT.esis |
-tools/explain_names.py DOCUMENT.esis
+"""Adds names to the places of an explanation:
+acl preview RULES --explain <DOCUMENT.esis | tools/explain_names.py DOCUMENT.esis
 
-After each line stands the path of its element by names: `- admin /1/1 /Hospital/Folder/Admin`. A
-number such as [2] is written where several elements of one name stand side by side, and counts
-those, as in XPath.
+Each line gets the path of its element by names: `- admin /1/1 /Hospital/Folder/Admin`. A name gets
+a number such as [2] where a parent has several children of that name. The number counts these
+children, as in XPath.
 
 Status 0: each line has its names. 1: a line isn't of an explanation, or the document has no element
 at its place; nothing is written. 2: a file can't be read.
@@ -12,7 +12,7 @@ at its place; nothing is written. 2: a file can't be read.
 import os
 import sys
 
-# The shared parts, and not this folder: inspect.py would be taken for Python's own module.
+# Import from parts/, and not from this folder: Python would take inspect.py for its own module.
 sys.path[0] = os.path.join(os.path.dirname(os.path.abspath(__file__)), "parts")
 
 import argparse
@@ -27,7 +27,7 @@ LINE = re.compile(r"[+-] [A-Za-z0-9_.-]{1,32} (/|(?:/[1-9][0-9]*)+)")
 
 
 class Unnamed(Exception):
-    """A line that gets no names."""
+    """A line that no names can be added to."""
 
 
 class Paths:
@@ -57,7 +57,7 @@ class Paths:
 
 
 def named(lines, document):
-    """The lines, each with its path by names."""
+    """The lines, each followed by the path of its element by names."""
     paths = Paths(document)
     for number, line in enumerate(lines, 1):
         found = LINE.fullmatch(line)
@@ -71,7 +71,7 @@ def named(lines, document):
 
 def main():
     parser = argparse.ArgumentParser(
-        description="Puts names beside the places of an explanation on standard input.")
+        description="Adds names to the places of an explanation on standard input.")
     parser.add_argument("document", metavar="DOCUMENT.esis", help="the document's lines")
     name = parser.parse_args().document
     try:

@@ -1,18 +1,18 @@
 #!/usr/bin/env python3
-"""Says of files that acl reads and writes what can be known of them, and whether they fit.
+"""Describes encrypted files, licences and keys, and says whether they fit.
 
-Of an encrypted file: its root, the numbers of its header and its size; no key is needed, and only
-the header and the top digest are read. Of a licence, or of a body that isn't sealed yet: the root
-it is for, its user and its rules. Of keys: the key check that files under them carry, never a key.
-Then for each two of the files whether they fit.
+Of an encrypted file it prints its root, the numbers of its header and its size. It needs no key,
+and reads only the header and the top digest. Of a licence, or of a body that isn't sealed yet, it
+prints the root that it names, its user and its rules. Of keys it prints the key check that is in
+files encoded with them, and never a key. Then it prints for each two of the files whether they fit.
 
-Status 0: all is in form, and all that can fit fits. 1: something isn't in form or doesn't fit.
-2: a file can't be read.
+Status 0: each file has its form, and all that can be compared fit. 1: a file doesn't have its form,
+or two don't fit. 2: a file can't be read.
 """
 import os
 import sys
 
-# The shared parts, and not this folder: this script would be taken for Python's own module.
+# Import from parts/, and not from this folder: Python would take this script for its own module.
 sys.path[0] = os.path.join(os.path.dirname(os.path.abspath(__file__)), "parts")
 
 import argparse
@@ -32,11 +32,11 @@ KEYS = re.compile(rb"document ([0-9a-fA-F]{32})\nseal ([0-9a-fA-F]{64})\n?")
 
 
 class BadForm(Exception):
-    """Bytes that are neither a file, a licence, a body nor keys."""
+    """Bytes that are neither an encrypted file, a licence, a body nor keys."""
 
 
 class Store:
-    """An encrypted file, by its header and its top digest."""
+    """What the header and the top digest of an encrypted file say."""
 
     word = "encrypted file"
 
@@ -108,7 +108,7 @@ class Licence:
 
 
 class Keys:
-    """The two keys, of which nothing is ever written."""
+    """The two keys. They are never printed."""
 
     word = "keys"
 
@@ -128,7 +128,7 @@ class Keys:
 
 
 def read(name):
-    """What the file of this name is."""
+    """The file of this name, as a Store, a Licence or Keys."""
     with open(name, "rb") as file:
         header = file.read(HEADER)
         if header.startswith(b"SKIPIDX1"):
@@ -145,7 +145,7 @@ def read(name):
 
 
 def fit(one, other):
-    """Whether two fit, in words, or None where there is nothing to compare."""
+    """Whether two of them fit, with a sentence that says why, or None if they can't be compared."""
     first, second = sorted((one, other), key=lambda it: (Keys, Licence, Store).index(type(it)))
     if isinstance(first, Keys) and isinstance(second, Store):
         good = first.check == second.check
@@ -162,7 +162,7 @@ def fit(one, other):
 
 
 def report(names):
-    """What is known of the files of these names, and the status."""
+    """The text about the files of these names, and the status."""
     lines, status, known = [], 0, []
     for name in names:
         try:

@@ -1,18 +1,18 @@
 #!/usr/bin/env python3
 """Writes a page that shows who sees what: tools/picture.py DOCUMENT.esis BODY.rules.. -o FILE.html
 
-One HTML file, which needs nothing else: the document's tree with a column for each licence body,
-each element in the colour of what that reader sees, and the rule that decides when the pointer is
-on it. Above the tree stands what is worth a look: rules that select nothing or decide nowhere, and
-names in paths that the document hasn't. The page is for whoever writes the rules, not for readers:
-it has the whole document in it.
+The page is one HTML file, which needs no other. It has the document's tree with a column for each
+licence body. The colour of an element shows what that reader sees of it; point at it to see the
+rule that decides. Above the tree are possible mistakes: rules that select nothing or decide
+nowhere, and names in paths that the document doesn't have. The page is for whoever writes the
+rules, not for readers, since it contains the whole document.
 
 Status 0: the page is written. 2: a file can't be read or written, or acl refuses it.
 """
 import os
 import sys
 
-# The shared parts, and not this folder: inspect.py would be taken for Python's own module.
+# Import from parts/, and not from this folder: Python would take inspect.py for its own module.
 PARTS = os.path.join(os.path.dirname(os.path.abspath(__file__)), "parts")
 sys.path[0] = PARTS
 
@@ -27,18 +27,18 @@ from findings import Names, Quoted, nothing_selected, nowhere_decided, unknown_n
 from plain_text import fault_of, shown, write_out
 from rule_facts import Facts, Unfitting
 
-# A text or a value in the page has at most so many characters.
+# The greatest number of characters of a text or a value in the page.
 LONGEST = 160
 
 
 def short(text):
-    """A text or a value for the page: without escapes, in one line and not too long."""
+    """A text or a value for the page: without escapes, in one line, and cut if it is too long."""
     plain = " ".join(unescaped(text[:4 * LONGEST]).decode("utf-8", "replace").split())
     return shown(plain if len(plain) <= LONGEST else plain[:LONGEST] + "…")
 
 
 def findings_of(facts, names):
-    """What is worth a look in one body: rules first, and then names."""
+    """The possible mistakes in one body: those of rules first, and then those of names."""
     decided, found = facts.decides(), []
     for number, rule in enumerate(facts.body.rules):
         if decided[number] == 0:
@@ -51,13 +51,13 @@ def findings_of(facts, names):
 
 
 def rules_of(facts):
-    """The rules of a body for the page: sign, id, path, line, and at how many it decides."""
+    """The rules of a body for the page: sign, id, path, line, how many elements it decides."""
     return [[rule.sign, shown(rule.id), shown(rule.path), rule.line, decides]
             for rule, decides in zip(facts.body.rules, facts.decides())]
 
 
 def reader_of(name, facts, names):
-    """What the page knows of one reader."""
+    """The data of one reader for the page."""
     at = [number for element, rule in facts.rule_at.items()
           for number in (element, -1 if rule is None else rule)]
     findings = [{"line": finding.rule.line, "denial": finding.rule.sign == "-",
@@ -70,8 +70,8 @@ def reader_of(name, facts, names):
 
 
 def tree_of(document):
-    """The document for the page: for each element its name, how many are inside it, its texts and
-    its attributes."""
+    """The document for the page: for each element its name, how many elements are inside it, its
+    texts and its attributes."""
     numbers = {name: number for number, name in enumerate(dict.fromkeys(document.names))}
     texts = {}
     for element, text in document.texts:
@@ -104,7 +104,7 @@ def made(arguments):
     data = Path(arguments.document).read_bytes()
     bodies = [(name, Path(name).read_bytes()) for name in arguments.bodies]
     previews = Previews(found_program(arguments.acl), data, arguments.document)
-    # `acl` reads the document first, so that what it refuses is refused in its own words.
+    # `acl` reads the document first, so that a refusal has its message.
     previews.view(bodies[0][1], bodies[0][0])
     document = Document(data)
     names = Names(document)

@@ -1,24 +1,25 @@
 #!/usr/bin/env bash
 # Publishes an XML document to its readers: tools/publish.sh [OPTION..] KEYS DOCUMENT.xml READER.rules..
 #
-# Encodes the document as DOCUMENT.acl, puts the root of that file into the body of each reader, says how much each reader
-# will see, warns of rules that do nothing, and seals the bodies: READER.licence stands beside READER.rules. Nothing is
-# moved to its place before everything is made, so a refusal leaves all files as they were.
+# It encodes the document as DOCUMENT.acl, and writes the root of that file into the body of each reader. It prints how
+# much each reader will see, and warns of rules that do nothing. Then it seals the bodies: it makes READER.licence
+# beside READER.rules. No file is moved into place before all files are made, so a refusal leaves all files as they
+# were.
 #
-# A document that declares namespaces gets DOCUMENT.namespaces beside DOCUMENT.acl, for tools/read.sh. Where it declares none,
-# such a file of an earlier edition is removed.
+# For a document that declares namespaces it makes DOCUMENT.namespaces beside DOCUMENT.acl, for tools/read.sh. For one
+# that declares none, it removes such a file of an earlier edition.
 #
-#   -o DIR           DOCUMENT.acl goes into the folder DIR, and not beside the document
-#   --allow-idle     a denial that selects nothing is warned of, and doesn't end the script
-#   --with-files     the document may take in other files of this machine, as examples/xml.sh says
-#   --no-namespaces  no DOCUMENT.namespaces is made, and a prefix may have two meanings, or none
+#   -o DIR           write DOCUMENT.acl to the folder DIR, and not beside the document
+#   --allow-idle     only warn of a denial that selects nothing, and don't stop
+#   --with-files     the document may include other files of this machine, as examples/xml.sh says
+#   --no-namespaces  don't make DOCUMENT.namespaces. A prefix may then have two meanings, or none
 #
-# It needs `acl` on the path, or its place in ACL, Debian's libxml2-utils (xmllint) and opensp (onsgmls), and python3, which it
-# doesn't need with --no-namespaces.
+# It needs `acl` on the path, or its path in ACL, and Debian's libxml2-utils (xmllint) and opensp (onsgmls). Without
+# --no-namespaces it needs python3, too.
 #
-# Status 0: all is published. 1: a denial selects nothing, or examples/xml.sh refuses the document. 2: the words are not as
-# above, or a file can't be read or made. 65: examples/xml.sh refuses its namespaces. 69: a tool is missing. Else that of `acl`,
-# which docs/FORMATS.md lists.
+# Status 0: all is published. 1: a denial selects nothing, or examples/xml.sh refuses the document. 2: the arguments are
+# not as above, or a file can't be read or made. 65: examples/xml.sh refuses the namespaces. 69: a tool is missing. Any
+# other status is that of `acl`, which docs/FORMATS.md lists.
 . "$(dirname -- "$(readlink -f -- "$0")")/parts.sh" || exit 2
 top=$(dirname -- "$(dirname -- "$(readlink -f -- "$0")")")
 
@@ -73,7 +74,8 @@ for body in "${bodies[@]}"; do licences+=("${body%.rules}.licence"); done
 twice=$(printf '%s\n' "${licences[@]}" | sort | uniq -d | head -n 1)
 [ -z "$twice" ] || fail "$usage_status" "$twice would be the licence of two bodies"
 
-# What is made beside the files that it will replace, so that a move is one step of the file system.
+# New files are made in the folder of the files that they will replace, so that each move is one step of the file
+# system.
 beside=()
 made=$(mktemp -d) || exit 2
 trap 'rm -rf -- "$made" "${beside[@]}"' EXIT
@@ -81,7 +83,7 @@ trap 'exit 130' INT
 trap 'exit 143' TERM
 trap 'exit 129' HUP
 
-# Leaves in $new the name of a new file in the folder of $1, with the mode that new files get.
+# Makes a file in the folder of $1, with the mode that new files get. Sets $new to its name.
 new=
 make_beside() {
     [ ! -d "$1" ] || fail "$usage_status" "$1 is a folder"
@@ -90,7 +92,8 @@ make_beside() {
     chmod "$(printf '%o' $((0666 & ~$(umask))))" "$new" || exit "$usage_status"
 }
 
-# Runs `acl` with the words after $1, the file that it is about. Where it refuses, says so and ends the script.
+# Runs `acl` with the arguments after $1, which is the file that the run is about. If `acl` refuses, it prints the
+# refusal and ends the script.
 step() {
     "$acl" "${@:2}" 2>"$made/said"
     local status=$?
@@ -102,7 +105,7 @@ step() {
     exit "$status"
 }
 
-# Writes to $2 the body $1 with the root, and says what was done for it.
+# Writes the body $1 to $2, with the root in its line, and prints what was changed.
 put_root() {
     local first second
     first=$(head -n 1 -- "$1" | tr -d '\0')
@@ -118,14 +121,14 @@ put_root() {
                 sed "1a root $root" -- "$1" >"$2"
                 echo "$1: the line of the root was missing, and is put in as line 2"
             else
-                # no body: `acl` says so
+                # This is no body. `acl` will refuse it.
                 cat -- "$1" >"$2"
             fi
             ;;
     esac || fail "$usage_status" "$1 can't be read, or $2 can't be written"
 }
 
-# Says how much of the document the view of the body $made/body is.
+# Prints how much of the document the view under $made/body shows. $1 is the name of the body.
 say_view() {
     step "$1" preview "$made/body" <"$made/lines" >"$made/view"
     if [ ! -s "$made/view" ]; then
@@ -139,15 +142,16 @@ say_view() {
     echo "$1: the view has $(count "$lines" line) and $(count "$elements" element), $hidden of them only as '-'"
 }
 
-# The numbers of the lines of $made/body with rules that decide somewhere. Rules are numbered for it, since `closed` in an
-# explanation may also be the id of a rule.
+# Prints the line numbers of the rules in $made/body that decide at some element. For this each id is replaced by a line
+# number, since `closed` in an explanation may also be the id of a rule.
 deciding_lines() {
     awk '/^[+-] / { sub(/^[+-] [^ ]+/, substr($0, 1, 1) " " NR) } { print }' "$made/body" >"$made/numbered" || exit 2
     step "$1" preview "$made/numbered" --explain <"$made/lines" >"$made/explained"
     awk '!seen[$2]++ { print $2 }' "$made/explained"
 }
 
-# Whether the rule at line $2 of $made/body selects something, by an explanation of that path alone, as a grant.
+# Whether the rule at line $2 of $made/body selects an element. It is found by an explanation of that path alone, as a
+# grant.
 selects() {
     {
         sed -n 1,3p "$made/body"
@@ -158,8 +162,8 @@ selects() {
     grep -a -q '^+ only ' "$made/explained"
 }
 
-# Warns of each rule of $made/body that decides nowhere. A denial that selects nothing is counted: whoever wrote it meant to
-# hide something.
+# Warns of each rule of $made/body that decides nowhere. Denials that select nothing are counted, since whoever wrote
+# one meant to hide something.
 idle_denials=0
 warn_idle() {
     local deciding number rule sign id
@@ -183,16 +187,18 @@ warn_idle() {
     done < <(grep -a -n '^[+-] ' "$made/body" | tr -d '\0')
 }
 
+# Prints the warning $2 about the body $1.
 warn() {
     echo "publish.sh: warning: $1: $2" >&2
 }
 
-# Moves what was made, $1, to its place $2.
+# Moves the new file $1 to its place $2.
 move() {
     mv -f -T -- "$1" "$2" || fail "$usage_status" "$2 could not be put in its place"
 }
 
-# Writes the lines of the document and its namespaces, of which there are none where they aren't wanted.
+# Writes the lines of the document to $made/lines, and its namespaces to $made/namespaces. With --no-namespaces the
+# second file is empty.
 write_lines() {
     local options=("${with_files[@]}") status
     [ "$with_namespaces" = no ] || options+=(--namespaces "$made/namespaces")

@@ -1,19 +1,22 @@
 #!/usr/bin/env bash
 # Writes a reader's view of a file as XML: tools/read.sh KEYS STORE LICENCE [--namespaces FILE] [--query P]
 #
-# `acl` checks the file STORE and the licence in the file LICENCE, and examples/to_xml.py makes XML of the view, with `hidden`
-# for each element that is kept only for what is inside it. Nothing is written before the whole view stands.
+# `acl` checks the file STORE and the licence in the file LICENCE. examples/to_xml.py makes XML of the view, with the
+# name `hidden` for each element that is kept only for what is inside it. Nothing is written before the whole view is
+# made.
 #
-# Where the document has namespaces, FILE is what tools/publish.sh made beside STORE: what the view uses of it is declared. It
-# isn't sealed, so a FILE from a store is worth what the store is worth: docs/TOOLS.md says what it could do.
+# Where the document has namespaces, FILE is the file of namespaces that tools/publish.sh made beside STORE. The XML
+# declares those that the view uses. FILE isn't sealed, so a FILE from a store can be trusted no more than the store:
+# docs/TOOLS.md says what it could do.
 #
-# It needs `acl` on the path, or its place in ACL, and `python3`.
+# It needs `acl` on the path, or its path in ACL, and `python3`.
 #
-# A refusal by `acl` is said by its number and its name alone, which docs/FORMATS.md lists, and the number is the status. The
-# rest of what `acl` says is not for readers: of a seal that isn't right it says the one that would be.
+# Of a refusal by `acl` only the number and the name are printed, which docs/FORMATS.md lists, and the number is the
+# status. The rest of what `acl` says is not for readers: for a wrong seal it prints the right one.
 #
-# Status 0: the view is on standard output. 1: the view is empty, or FILE isn't of that document, and nothing is written. 2: the
-# words are not as above, or LICENCE or FILE can't be read. 69: a tool is missing. Else that of `acl`.
+# Status 0: the view is on standard output. 1: the view is empty, or FILE is of another document; nothing is written. 2:
+# the arguments are not as above, or LICENCE or FILE can't be read. 69: a tool is missing. Any other status is that of
+# `acl`.
 . "$(dirname -- "$(readlink -f -- "$0")")/parts.sh" || exit 2
 top=$(dirname -- "$(dirname -- "$(readlink -f -- "$0")")")
 

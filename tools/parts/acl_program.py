@@ -1,4 +1,4 @@
-"""Runs `acl preview`, from which the tools have all that they say of rules."""
+"""Runs `acl preview`, from which the tools know what rules do."""
 import os
 import shutil
 import subprocess
@@ -11,11 +11,11 @@ BUILT = Path(__file__).resolve().parents[2] / "crates" / "acl_cli" / "out" / "ac
 
 
 class Refused(Exception):
-    """What `acl` said on standard error, or that it couldn't be run."""
+    """`acl` refused, with its standard error as the message, or it couldn't be run."""
 
 
 def found_program(named):
-    """The program that is named, or else `acl` on the path, or else the one built in this clone."""
+    """The program of this name, or else `acl` on the path, or else the one built in this clone."""
     program = named or shutil.which("acl") or (str(BUILT) if BUILT.exists() else None)
     if program is None:
         raise Refused("acl is not on the path: build it (see README.md), or name it with --acl")
@@ -23,7 +23,7 @@ def found_program(named):
 
 
 class Previews:
-    """`acl preview` of one document."""
+    """Runs of `acl preview` on one document."""
 
     def __init__(self, program, document, name):
         self.program, self.document, self.name = program, document, name
@@ -44,10 +44,10 @@ class Previews:
         return ended.stdout
 
     def view(self, body, name):
-        """The view under a body, which is called by this name if it is refused."""
+        """The view under a body. A refusal calls the body by this name."""
         return self._run(body, [], name)
 
     def explanation(self, body, name):
-        """The explanation as (sign, id, place), in document order."""
+        """The explanation under a body, as a list of (sign, id, place) in document order."""
         lines = self._run(body, ["--explain"], name).decode("ascii").splitlines()
         return [tuple(line.split(" ")) for line in lines]

@@ -13,7 +13,7 @@ RULE = re.compile(rb"([+-]) ([A-Za-z0-9_.-]{1,32}) (.+)", re.S)
 
 
 class BadBody(Exception):
-    """Bytes that are not a licence body. `line` is the first line that can't stand there."""
+    """Bytes that are not a licence body. `line` is the number of the first wrong line."""
 
     def __init__(self, line):
         super().__init__(f"line {line} can't stand there in a licence body")
@@ -21,7 +21,7 @@ class BadBody(Exception):
 
 
 def read_body(data):
-    """The body of these bytes. Paths stay bytes: only `acl` says whether they are in form."""
+    """The body in these bytes. Paths stay bytes: only `acl` says whether they are valid."""
     lines = lines_of(data)
     forms = [re.compile(rb"licence 1"), ROOT, USER]
     found = []
@@ -43,7 +43,7 @@ def read_body(data):
 
 
 def written_body(body, rules):
-    """The bytes of a body with these rules, named by their numbers: no id is `closed` then."""
+    """The bytes of a body with these rules. Their numbers are their ids, so no id is `closed`."""
     lines = [b"licence 1", b"root " + body.root, b"user " + body.user]
     lines += [b"%s %d %s" % (rule.sign.encode(), number, rule.path)
               for number, rule in enumerate(rules)]

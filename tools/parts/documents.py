@@ -10,11 +10,11 @@ ESCAPE = re.compile(rb"\\n\\012|\\n|\\\\|\\([0-3][0-7]{2})")
 
 
 class BadDocument(Exception):
-    """Lines that are not those of a document."""
+    """Lines that are not a document."""
 
 
 def unescaped(text):
-    """A text or a value without the escapes of onsgmls."""
+    """A text or a value with the escapes of onsgmls replaced by what they mean."""
     def byte_of(found):
         if found[1]:
             return bytes([int(found[1], 8)])
@@ -23,7 +23,7 @@ def unescaped(text):
 
 
 def lines_of(data):
-    """The lines of these bytes; what follows the last line feed is one if it isn't empty."""
+    """The lines of these bytes. What follows the last line feed is a line if it isn't empty."""
     lines = data.split(b"\n")
     if lines[-1] == b"":
         lines.pop()
@@ -31,14 +31,14 @@ def lines_of(data):
 
 
 class Document:
-    """A document as lists with an entry for each element, in document order: element 0 is the root.
+    """A document as lists with an entry for each element, in document order. Element 0 is the root.
 
     names       the element's name
-    parents     the element around it; -1 for the root
-    ends        the first element after all that is inside it
-    attributes  its attributes as (name, type, value), only where it has any
+    parents     its parent; -1 for the root
+    ends        the first element after it that isn't inside it
+    attributes  its attributes as (name, type, value); only elements that have some are in this map
     texts       each text of the document with its element, in document order
-    first_texts, last_texts   where in `texts` those inside the element begin and end
+    first_texts, last_texts   where the texts inside the element begin and end in `texts`
     """
 
     def __init__(self, data):

@@ -1,4 +1,4 @@
-"""What is worth a look in the rules of a body, in words."""
+"""Findings: sentences about possible mistakes in the rules of a body."""
 from collections import namedtuple
 
 from path_names import (LONGEST_NUMBER, is_broken_number, names_in, nearest, number_comparisons)
@@ -10,7 +10,7 @@ Finding = namedtuple("Finding", "rule sentence")
 
 
 class Quoted(str):
-    """A piece of a sentence that is from a file: the id of a rule, a name, a value."""
+    """A piece of a sentence that comes from a file: the id of a rule, a name or a value."""
 
 
 class Names:
@@ -28,7 +28,7 @@ class Names:
         return name in self._known
 
     def values(self, target):
-        """The values of a target of a comparison: `price`, `@price` or `*`. Long ones are left
+        """The values of a target of a comparison (`price`, `@price` or `*`). Long values are left
         out, since no number is long."""
         if target.startswith(b"@"):
             for attributes in self._document.attributes.values():
@@ -44,7 +44,7 @@ class Names:
 
 
 def unknown_names(rule, names):
-    """What is found of each name in the rule's path that the document hasn't."""
+    """A finding for each name in the rule's path that the document doesn't have."""
     for name in map(shown, names_in(rule.path)):
         if name in names:
             continue
@@ -61,7 +61,7 @@ def unknown_names(rule, names):
 
 
 def broken_numbers(rule, names):
-    """What is found of each comparison with a number that meets a value which is none."""
+    """A finding for each comparison of a number with a value that isn't a whole number."""
     for target, sign, number in dict.fromkeys(number_comparisons(rule.path)):
         values = [value for value in names.values(target) if is_broken_number(value)]
         if values:
@@ -74,7 +74,7 @@ def broken_numbers(rule, names):
 
 
 def nothing_selected(rule):
-    """That a rule selects nothing."""
+    """The finding that a rule selects nothing."""
     if rule.sign == "-":
         return Finding(rule, ["the denial ", Quoted(shown(rule.id)),
                               " selects nothing, so it hides nothing"])
@@ -83,13 +83,13 @@ def nothing_selected(rule):
 
 
 def nowhere_decided(rule, selected):
-    """That a rule selects elements and decides at none of them."""
+    """The finding that a rule selects elements and decides at none of them."""
     where = "there" if selected == 1 else "at each of them"
     return Finding(rule, [Quoted(shown(rule.id)), " decides nowhere: it selects ",
                           counted(selected, "element"), f", and {where} another rule decides"])
 
 
 def as_text(finding):
-    """The sentence with quotes round what is from a file."""
+    """The sentence as text, with quotes around what comes from a file."""
     return "".join(f"'{piece}'" if isinstance(piece, Quoted) else piece
                    for piece in finding.sentence)

@@ -1,8 +1,8 @@
 #!/usr/bin/env python3
 """Writes the namespaces that the lines of a document declare: namespaces.py <FILE.esis >FILE.namespaces
 
-A line has a prefix, or `-` for the default namespace, a space and the URI. Status 65: a prefix has two meanings, or none
-where it is used; standard error says which, and nothing is written.
+Each line is a prefix, or `-` for the default namespace, then a space and the URI. The status is 65 if a prefix has two
+meanings, or if a prefix is used where it isn't declared. Then standard error says which, and nothing is written.
 """
 import sys
 from collections import Counter
@@ -11,11 +11,11 @@ from plain_text import shown
 
 
 class BadNamespaces(Exception):
-    """A prefix with two meanings or with none."""
+    """A prefix that has two meanings, or none where it is used."""
 
 
 class Declarations:
-    """The URI of each prefix that was declared so far; the default namespace has the prefix b"", and no namespace the URI b""."""
+    """The URI of each prefix that was declared so far. The prefix b"" is the default namespace; the URI b"" is no namespace."""
 
     def __init__(self):
         self.uris = {}
@@ -30,7 +30,7 @@ class Declarations:
             raise BadNamespaces(f"{name} has two meanings: {one} and {other}")
 
     def start(self, name, declared, prefixes):
-        """Goes into an element with what it declares and the prefixes of its attributes."""
+        """Begins an element, given what it declares and the prefixes of its attributes."""
         for prefix, uri in declared.items():
             self.mean(prefix, uri)
         self.around.update(list(declared))
@@ -43,7 +43,7 @@ class Declarations:
 
 
 def namespaces_of(lines):
-    """The prefixes of a document with their URIs."""
+    """The prefixes that a document declares, with their URIs."""
     found, open_elements, declared, prefixes = Declarations(), [], {}, []
     for line in lines:
         kind, rest = line[:1], line[1:].rstrip(b"\n")

@@ -1,4 +1,4 @@
-"""The names and the comparisons of a path (docs/FORMATS.md), and the name nearest to another."""
+"""The names and comparisons in a path (docs/FORMATS.md), and the name most similar to another."""
 import difflib
 import re
 from collections import namedtuple
@@ -12,19 +12,19 @@ OPERAND = rb"\"[^\"]*\"|'[^']*'|-?[0-9]+|USER"
 PREDICATE = re.compile(rb"\[ *(%s) *(?:(!=|<=|>=|=|<|>) *(%s) *)?\]" % (BODY, OPERAND))
 NAMED = re.compile(rb"@?%s" % NAME)
 NUMBER = re.compile(rb"-?[0-9]+")
-# What people read as a number; of these only 1 to 18 digits, with a `-` or without, are whole.
+# What people read as a number. To `acl` only 1 to 18 digits, with or without a `-`, are a number.
 LIKE_NUMBER = re.compile(rb"\s*[+-]?[0-9]+(?:[.,][0-9]+)*\s*")
 WHOLE = re.compile(rb"-?[0-9]{1,18}")
 LONGEST_NUMBER = 64
 
 # A comparison with a number. `target` is what is compared: `price`, `@price`, or `*`.
 Comparison = namedtuple("Comparison", "target sign number")
-# `why` says how the name differs from the one that was asked for.
+# `why` says how the name differs from the wanted one.
 Nearest = namedtuple("Nearest", "name why")
 
 
 def steps_of(path):
-    """The steps of a path that `acl` has read: each its test and its predicates."""
+    """The steps of a path that `acl` accepts, each as its test and its predicates."""
     at, steps = 0, []
     while at < len(path):
         step = STEP.match(path, at)
@@ -39,7 +39,7 @@ def steps_of(path):
 
 
 def names_in(path):
-    """The names in a path, each once: of an element, or of an attribute with `@` before it."""
+    """The names in a path, each once. The name of an attribute has an `@` before it."""
     names = []
     for test, predicates in steps_of(path):
         names += NAMED.findall(test)
@@ -49,7 +49,7 @@ def names_in(path):
 
 
 def number_comparisons(path):
-    """The comparisons of a path with a number."""
+    """The comparisons with a number in a path."""
     compared = []
     for test, predicates in steps_of(path):
         for body, sign, operand in predicates:
@@ -60,7 +60,7 @@ def number_comparisons(path):
 
 
 def is_broken_number(value):
-    """Reads like a number, and is no whole number to `acl`: `12.50`, ` 9`, `1,000`."""
+    """Whether a value looks like a number, but isn't one to `acl`: `12.50`, ` 9`, `1,000`."""
     plain = unescaped(value)
     return LIKE_NUMBER.fullmatch(plain) is not None and not WHOLE.fullmatch(value)
 
@@ -71,9 +71,9 @@ def local(name):
 
 
 def nearest(wanted, elements, attributes):
-    """The name of the document that is nearest to one that it hasn't, or None.
+    """The name in the document that is most similar to a name that isn't in it, or None.
 
-    Names are text here; `wanted` has an `@` before it for an attribute, and so has the answer.
+    Names are text here. In `wanted` and the answer, the name of an attribute has an `@` before it.
     """
     mark = "@" if wanted.startswith("@") else ""
     same_kind, other_kind = (attributes, elements) if mark else (elements, attributes)

@@ -1,4 +1,4 @@
-"""What the rules of a body do in a document: all of it from `acl preview`, with `--explain` too."""
+"""What the rules of a body do in a document, from `acl preview`, with and without `--explain`."""
 from collections import Counter
 
 from bodies import read_body, written_body
@@ -13,10 +13,10 @@ class Unfitting(Exception):
 class Facts:
     """What one body does in one document.
 
-    body       the body, read
+    body       the body
     view       the bytes of the view
-    rule_at    the rule that decides at each element which the explanation has; None for `closed`
-    deciders   for each element the nearest element in `rule_at`, itself or one around it
+    rule_at    for each element in the explanation the rule that decides there; None for `closed`
+    deciders   for each element the nearest element in `rule_at`, itself or an ancestor
     signs      for each element whether it is granted
     states     for each element what the reader sees: SHOWN, DUMMY or HIDDEN
     """
@@ -33,7 +33,7 @@ class Facts:
             raise Unfitting("the view and the explanation don't fit together")
 
     def _explained(self, rules):
-        """The explanation under these rules of the body: (element, number of its rule, sign)."""
+        """The explanation under these rules of the body, as (element, number of its rule, sign)."""
         lines = []
         body = written_body(self.body, rules)
         for sign, rule, place in self._previews.explanation(body, self._name):
@@ -42,12 +42,12 @@ class Facts:
         return lines
 
     def decides(self):
-        """How many elements each rule decides at, by the number of the rule."""
+        """For each rule at how many elements it decides."""
         counts = Counter(self.rule_at.values())
         return [counts[number] for number in range(len(self.body.rules))]
 
     def selects(self, number):
-        """How many elements a rule selects: those that are explained under it alone."""
+        """How many elements a rule selects, by an explanation under this rule alone."""
         lines = self._explained([self.body.rules[number]])
         return sum(rule is not None for _, rule, _ in lines)
 
@@ -58,7 +58,7 @@ class Facts:
 
 
 def _spread(document, lines):
-    """For each element the nearest explained one and its sign."""
+    """For each element the nearest one in the explanation, itself or an ancestor, and its sign."""
     explained = {element: sign for element, _, sign in lines}
     deciders, signs = [], []
     for element, parent in enumerate(document.parents):
@@ -69,7 +69,7 @@ def _spread(document, lines):
 
 
 def _states(document, signs):
-    """What is seen of each element: a denied one around a granted one is kept as `-`."""
+    """What the reader sees of each element. A denied one around a granted one is kept as `-`."""
     states = [SHOWN if sign else HIDDEN for sign in signs]
     for element in range(len(document) - 1, 0, -1):
         if states[element] != HIDDEN and states[document.parents[element]] == HIDDEN:
@@ -78,7 +78,7 @@ def _states(document, signs):
 
 
 def written_view(document, states):
-    """The lines of a view in which the elements are seen so."""
+    """The bytes of the view in which the elements have these states."""
     made, waiting, around, element = [], [], [], -1
     for line in document.lines:
         kind = line[:1]

@@ -1,10 +1,10 @@
--- Lemmas on strings of bits, as lists of the answers of a test at places in turn.
+-- Lemmas on bit strings, as lists of the values of a test at successive indices.
 use Rattle.std.proofs.Common.{◌≡◌, ℕ, zero, suc, ◌+◌, ◌-◌, ◌*◌, ◌/◌, ◌%◌, ◌^◌, ◌<◌, ◌≤◌, Bool, true, false, eqb, List, [], ◌∷◌, ◌++◌, length, get_or, take, drop, replicate, refl, ap, arith, subst, sym, ◌∙◌, length-append, inl, inr, pow-suc, mod-eq_of_lt, length-drop, length-take-le}
 use Rattle.std.specs.Int.{bit_at}
 use Rattle.std.proofs.lemmas.Nat.{mod-pow-add}
 use Rattle.std.proofs.lemmas.Bool.{cases_lt}
 use Rattle.std.proofs.lemmas.Nat.Bits.{bit_at-lt, bit_at_lowest, bit_at_cat_high}
-use Rattle.acl_bits.specs.Bits.{has_bit, bits_of, digit, number_after, number_of, bits_of_bytes, filled_bits, first_bytes, bytes_of, bit_in, HoldBits}
+use Rattle.acl_bits.specs.FilledBits.{has_bit, bits_of, digit, number_after, number_of, bits_of_bytes, filled_bits, first_bytes, bytes_of, bit_in, HoldBits}
 use Rattle.std.proofs.lemmas.List.{take_at, drop_at, take-append-drop, length-replicate, get_or-take, get_or_past, length-take}
 use Rattle.std.proofs.Math.Seq.{drop-nil, drop-append-add}
 
@@ -74,7 +74,7 @@ bit_of_digit : (high : ℕ) (b : Bool) → eqb ((2 * high + digit b) % 2) 1 ≡ 
 bit_of_digit high true = let e : (2 * high + 1) % 2 ≡ 1 = omega arith in ap (λ k. eqb k 1) e
 bit_of_digit high false = let e : (2 * high + 0) % 2 ≡ 0 = omega arith in ap (λ k. eqb k 1) e
 
--- the bits of the number that bits make
+-- the bits of the number that the bits make are these bits
 bits_of-number_after : (bits : List Bool) (high : ℕ) → bits_of (length bits) (number_after high bits) ≡ bits
 unfolding number_after bits_of
 bits_of-number_after [] high = refl
@@ -92,7 +92,7 @@ bits_of-number_after (b ∷ bits) high =
 pub bits_of-number_of : (bits : List Bool) → bits_of (length bits) (number_of bits) ≡ bits
 bits_of-number_of bits = bits_of-number_after bits 0
 
--- ---- the answers of a test at n places, from `place` on
+-- ---- the values of a test at n indices, from `place` on
 
 unfoldable pub answers : (ℕ → Bool) → ℕ → ℕ → List Bool
 answers f place zero = []
@@ -135,7 +135,7 @@ answers-false f a zero h = refl
 answers-false f a (suc n) h =
     ap (λ b. b ∷ answers f (suc a) n) (h a (omega arith)) ∙ ap (λ xs. false ∷ xs) (answers-false f (suc a) n (λ m l. h m (omega arith)))
 
--- the bits of a value, placed from a on
+-- the bits of a value, with indices from a on
 pub answers-bits_of : (n a v : ℕ) → bits_of n v ≡ answers (λ m. has_bit v (a + n - 1 - m)) a n
 unfolding answers bits_of
 answers-bits_of zero a v = refl
@@ -147,7 +147,7 @@ answers-bits_of (suc n) a v =
     let same : suc a + n - 1 - m ≡ a + suc n - 1 - m = omega arith in
     ap (has_bit v) same))
 
--- the bits of bytes are those at the places from 0 on
+-- the bits of bytes are the bits with the indices from 0 on
 pub bits_of_bytes-answers : (bytes : List ℕ) → bits_of_bytes bytes ≡ answers (bit_in bytes) 0 (8 * length bytes)
 unfolding bits_of_bytes bit_in answers
 bits_of_bytes-answers [] = refl
@@ -236,9 +236,9 @@ first_bytes-bytes : (bytes : List ℕ) → ((k : ℕ) → get_or bytes k 0 < 256
 unfolding bits_of_bytes first_bytes
 first_bytes-bytes [] fit = refl
 first_bytes-bytes (b ∷ bytes) fit =
-    let front = take_at (bits_of 8 b) (bits_of_bytes bytes) 8 (length-bits_of 8 b) in
+    let prefix = take_at (bits_of 8 b) (bits_of_bytes bytes) 8 (length-bits_of 8 b) in
     let back = drop_at (bits_of 8 b) (bits_of_bytes bytes) 8 (length-bits_of 8 b) in
-    ap (λ xs. number_of xs ∷ first_bytes (length bytes) (drop 8 (bits_of 8 b ++ bits_of_bytes bytes))) front
+    ap (λ xs. number_of xs ∷ first_bytes (length bytes) (drop 8 (bits_of 8 b ++ bits_of_bytes bytes))) prefix
     ∙ ap (λ xs. number_of (bits_of 8 b) ∷ first_bytes (length bytes) xs) back
     ∙ ap (λ k. k ∷ first_bytes (length bytes) (bits_of_bytes bytes)) (number_of-bits_of 8 b (fit 0))
     ∙ ap (λ xs. b ∷ xs) (first_bytes-bytes bytes (λ k. fit (suc k)))
@@ -251,7 +251,7 @@ fits_taken bytes c k fit = elim (cases_lt k c) [
       omega (arith, none)
 ]
 
--- the bytes of a string that bytes hold are the first of these
+-- the bytes of a string that is held in forty bytes are the first of these
 pub bytes_of-held : (bytes : List ℕ) (len : ℕ) → HoldBits bytes len
     → bytes_of (take len (bits_of_bytes bytes)) ≡ take ((len + 7) / 8) bytes
 unfolding bytes_of bit_in

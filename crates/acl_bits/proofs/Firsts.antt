@@ -6,13 +6,13 @@ use Rattle.std.proofs.lemmas.Bool.{cases_lt, cases_eq}
 use Rattle.std.proofs.lemmas.Nat.{and_le_l}
 use Rattle.std.proofs.lemmas.Nat.Bits.{bit_at-zero, bit_at-trailing_zeros, bit_at_clear_same, bit_at_clear_other}
 use Rattle.acl_bits.specs.Row.{is_set, members_of, AreWords, IsFirst}
-use Rattle.acl_bits.specs.RowLaws.{numbers_below, row_of-numbers_below}
-use Rattle.acl_bits.specs.RowWords.{is_set_at}
+use Rattle.acl_bits.specs.inside.RowLaws.{numbers_below, row_of-numbers_below}
+use Rattle.acl_bits.specs.inside.RowWords.{is_set_at}
 use Rattle.acl_bits.proofs.Words.{AreWords-set}
 
 -- ---- the first of the numbers that pass a test
 
--- where no number passes, none is there
+-- where no number passes, the list is empty
 numbers_below-none : (p : ℕ → Bool) (n : ℕ) → ((k : ℕ) → k < n → p k ≡ false) → numbers_below p n ≡ []
 unfolding numbers_below
 numbers_below-none p zero h = refl
@@ -20,7 +20,7 @@ numbers_below-none p (suc n) h =
     ap (λ xs. xs ++ cond (p n) (n ∷ []) []) (numbers_below-none p n (λ k l. h k (omega arith)))
     ∙ ap (λ b. cond b (n ∷ []) []) (h n (omega arith))
 
--- the first that passes comes before those that another test lets pass, which leaves out just that one
+-- the list is the first number that passes, followed by the list of a test that leaves out this number alone
 numbers_below-first : (p q : ℕ → Bool) (m n : ℕ) → m < n → p m ≡ true → ((k : ℕ) → k < m → p k ≡ false) → q m ≡ false
     → ((k : ℕ) → k < n → (k ≡ m → ⊥) → q k ≡ p k) → numbers_below p n ≡ m ∷ numbers_below q n
 unfolding numbers_below
@@ -42,11 +42,11 @@ numbers_below-first p q m (suc n) h passes none out same = elim (cases_lt m n) [
 
 -- ---- the words
 
--- words without a number have no member
+-- words that contain no number have no member
 pub members_of-none : (words : List ℕ) → ((n : ℕ) → n < 256 → is_set words n ≡ false) → members_of words ≡ []
 members_of-none words h = row_of-numbers_below (is_set words) ∙ numbers_below-none (is_set words) 256 h
 
--- where the words are zero, they have no number
+-- words that are zero contain no number
 pub is_set-zeros : (words : List ℕ) → ((k : ℕ) → k < 4 → get_or words k 0 ≡ 0) → (n : ℕ) → n < 256 → is_set words n ≡ false
 unfolding is_set
 is_set-zeros words h n l = ap (λ w. eqb (bit_at w (n % 64)) 1) (h (n / 64) (omega arith)) ∙ ap (λ b. eqb b 1) (bit_at-zero (n % 64))
@@ -77,14 +77,14 @@ AreWords-without words n h l =
     AreWords-set words (n / 64) (word_without words n) h (omega arith)
     (omega (arith, and_le_l (get_or words (n / 64) 0) (bit_not w64 (1 * 2 ^ (n % 64) % 2 ^ 64)), h.fit (n / 64)))
 
--- the number is taken out
+-- the number is removed
 without_same : (words : List ℕ) (n : ℕ) → AreWords words → n < 256 → is_set (set words (n / 64) (word_without words n)) n ≡ false
 unfolding is_set
 without_same words n h l =
     ap (λ w. eqb (bit_at w (n % 64)) 1) (get_or-set_at words (n / 64) (n / 64) (word_without words n) 0 refl (omega (arith, h.four)))
     ∙ ap (λ b. eqb b 1) (bit_at_clear_same w64 (get_or words (n / 64) 0) (n % 64) (omega arith))
 
--- and no other
+-- and no other number is removed
 without_other : (words : List ℕ) (n m : ℕ) → AreWords words → n < 256 → m < 256 → (m ≡ n → ⊥)
     → is_set (set words (n / 64) (word_without words n)) m ≡ is_set words m
 unfolding is_set
@@ -97,7 +97,7 @@ without_other words n m h l k apart = elim (cases_eq (m / 64) (n / 64)) [
   | inr other ↦ ap (λ w. eqb (bit_at w (m % 64)) 1) (get_or-set_other words (n / 64) (m / 64) (word_without words n) 0 other)
 ]
 
--- the members are the least one and those of the words without it
+-- the members are the least one, followed by the members of the words without it
 pub members_of-first : (words : List ℕ) (n : ℕ) → AreWords words → IsFirst words n
     → members_of words ≡ n ∷ members_of (set words (n / 64) (word_without words n))
 members_of-first words n h first =

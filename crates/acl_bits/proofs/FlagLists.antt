@@ -16,7 +16,7 @@ use Rattle.acl_bits.proofs.Words.{put_at}
 pub length-flags : (words : List ℕ) (len : ℕ) (flags : List Bool) → flags_of words len ≡ flags → length flags ≡ len
 length-flags words len flags view = ap length (sym view) ∙ length-map-range_with_len (is_set words) 0 len
 
--- the flag at a place
+-- the flag with a given index
 flag_at : (words : List ℕ) (len : ℕ) (flags : List Bool) (n : ℕ) → flags_of words len ≡ flags → n < len → get_or flags n false ≡ is_set words n
 flag_at words len flags n view h =
     ap (λ xs. get_or xs n false) (sym view) ∙ get_or-map-range_with_len (is_set words) 0 len n n false h (omega arith)
@@ -143,7 +143,7 @@ flags_of-grown old new len more words had count flags view hold e sum whole resi
 
 -- ---- `rise`
 
--- flags that are each what rises at their place are the list that is risen
+-- flags that are each given by `rises` are the list `risen`
 rises_range : (own tests deep below new : ℕ → Bool) (a n : ℕ)
     → ((k : ℕ) → a ≤ k → k < a + n → new k ≡ rises (own k) (tests k) (flag_before below false k) (deep k) (below k))
     → risen (flag_before below false a) (map tests (range_with_len a n)) (map deep (range_with_len a n)) (map below (range_with_len a n)) (map own (range_with_len a n))
@@ -180,7 +180,7 @@ pub flags_of-risen : (old new tests deep below : List ℕ) (len : ℕ) → AreRi
 flags_of-risen old new tests deep below len up hold =
     sym (rises_range (is_set old) (is_set tests) (is_set deep) (is_set below) (is_set new) 0 len (λ k l h. up.flags k (omega (arith, hold.exact))))
 
--- two lists of one length have as many flags, and as many words
+-- two lists of the same length have the same number of flags, and the same number of words
 pub same_len : (own other : List ℕ) (len more : ℕ) (flags others : List Bool) → flags_of own len ≡ flags → flags_of other more ≡ others
     → length others ≡ length flags → more ≡ len
 same_len own other len more flags others view second long =
@@ -191,7 +191,7 @@ pub same_words : (own other xs ys : List ℕ) (len more : ℕ) → HoldFlags own
 same_words own other xs ys len more hold second e at_other at_own =
     ap length at_other ∙ second.exact ∙ ap (λ k. (k + 63) / 64) e ∙ sym hold.exact ∙ sym (ap length at_own)
 
--- what a write to all words leaves
+-- after a write to all words, the words are the new ones
 pub words_left : (old new xs : List ℕ) (n : ℕ) → xs ≡ old → length new ≡ length old → length xs ≡ n
     → take n (new ++ drop (length new) old) ≡ new
 words_left old new xs n e long whole = take_at new (drop (length new) old) n (long ∙ ap length (sym e) ∙ whole)

@@ -1,26 +1,26 @@
--- Lemmas on the rise of words of flags.
+-- Lemmas on `rise`, word by word.
 use Rattle.std.proofs.Common.{◌≡◌, ℕ, zero, suc, ◌+◌, ◌*◌, ◌/◌, ◌%◌, ◌^◌, ◌<◌, ◌≤◌, Bool, false, eqb, ◌&&◌, ◌||◌, List, length, get_or, set, refl, ap, arith, sym, ◌∙◌, bit_and, bit_or, min, inl, inr, length-set, get_or-set_other}
 use Rattle.std.specs.Int.{bit_at}
 use Rattle.std.proofs.lemmas.Grind.{get_or-set_at}
 use Rattle.std.proofs.lemmas.Bool.Decides.{nat_tests}
 use Rattle.std.proofs.lemmas.Bool.{cases_lt}
 use Rattle.std.proofs.lemmas.Nat.Bits.{bit_at_lowest, bit_at-suc, bit_at-lt, bit_at_and, bit_at_above}
-use Rattle.acl_bits.specs.Bits.{has_bit}
+use Rattle.acl_bits.specs.FilledBits.{has_bit}
 use Rattle.acl_bits.specs.Row.{is_set}
-use Rattle.acl_bits.specs.RowWords.{is_set_at}
+use Rattle.acl_bits.specs.inside.RowWords.{is_set_at}
 use Rattle.acl_bits.specs.Flags.{rises, flag_before, AreRisen}
 use Rattle.acl_bits.proofs.Windows.{has_bit-mod, or_bit, or_false}
 
 -- ---- one word
 
--- a bit is in both words exactly where it is in each
+-- a bit of the `and` of two words is 1 exactly where it is 1 in both
 and_bit : (x y i : ℕ) → has_bit (bit_and x y) i ≡ (has_bit x i && has_bit y i)
 and_bit x y i = ap (λ k. eqb k 1) (bit_at_and x y i) ∙ digits (bit_at x i) (bit_at y i) (bit_at-lt x i) (bit_at-lt y i)
   where
     digits : (a b : ℕ) → a < 2 → b < 2 → eqb (min a b) 1 ≡ (eqb a 1 && eqb b 1)
     digits a b h l = grind (arith, nat_tests)
 
--- the word one place up with the carry below it: at each place the bit before
+-- the word shifted left by one with the carry as its lowest bit: each bit is the one before it
 abbrev pub moved : ℕ → ℕ → ℕ
 moved below carry = bit_or (below * 2 % 18446744073709551616) carry
 
@@ -40,7 +40,7 @@ moved_bit below carry (suc j) small h =
     (has_bit-mod (below * 2) 64 (suc j) h ∙ ap (λ b. eqb b 1) (bit_at-suc (below * 2) j ∙ ap (λ w. bit_at w j) half))
     ∙ or_false (has_bit below j) (has_bit carry (suc j)) (ap (λ b. eqb b 1) (bit_at_above carry 1 (suc j) small (omega arith)))
 
--- each bit of the risen word
+-- each bit of the updated word
 pub risen_word_bit : (own tests deep below carry i : ℕ) → carry < 2 → i < 64
     → has_bit (bit_or own (bit_or (bit_and tests (moved below carry)) (bit_and deep below))) i
     ≡ rises (has_bit own i) (has_bit tests i) (flag_before (has_bit below) (eqb carry 1) i) (has_bit deep i) (has_bit below i)
@@ -54,8 +54,7 @@ risen_word_bit own tests deep below carry i small h =
 
 -- ---- all words
 
--- the words before i are risen, the others are as they were, and the carry is the flag that stands
--- below before word i
+-- the words before i are updated, the others are unchanged, and the carry is the child's flag before word i
 pub record RisenUpTo (old new tests deep below : List ℕ) (i carry : ℕ) : Type 0 where
   pub long : length new ≡ length old
   pub done : (n : ℕ) → n < 64 * i
@@ -74,12 +73,12 @@ RisenUpTo-none old tests deep below = record {
   before = refl;
 }
 
--- a bit of word i is the flag at its place
+-- a bit of word i is a flag of the list
 word_bit : (words : List ℕ) (n i : ℕ) → n / 64 ≡ i → has_bit (get_or words i 0) (n % 64) ≡ is_set words n
 unfolding is_set
 word_bit words n i e = ap (λ k. has_bit (get_or words k 0) (n % 64)) (sym e)
 
--- the bit before a place of word i, or the carry before its first, is the flag before the place
+-- the bit before a bit of word i, or the carry before its lowest bit, is the flag before that bit
 word_before : (below : List ℕ) (i carry j : ℕ) → j < 64 → eqb carry 1 ≡ flag_before (is_set below) false (64 * i)
     → flag_before (has_bit (get_or below i 0)) (eqb carry 1) j ≡ flag_before (is_set below) false (64 * i + j)
 word_before below i carry zero h e =
@@ -92,7 +91,7 @@ word_before below i carry (suc j) h e =
 rises_same : (a b c d e p q r s t : Bool) → a ≡ p → b ≡ q → c ≡ r → d ≡ s → e ≡ t → rises a b c d e ≡ rises p q r s t
 rises_same a b c d e p q r s t f g h i j = cc
 
--- word i is written
+-- the flags of word i, once it is written
 here_written : (old new tests deep below : List ℕ) (i carry w n : ℕ) → RisenUpTo old new tests deep below i carry → i < length old
     → ((j : ℕ) → j < 64
     → has_bit w j

@@ -11,9 +11,9 @@ use Rattle.std.proofs.lemmas.List.Kept.{IsStrictlyIncreasing-filter}
 use Rattle.std.proofs.lemmas.Option.{slice_get_within, slice_get-get_or, get_or_from_slice_get}
 use Rattle.std.specs.List.Sorted.{IsStrictlyIncreasing}
 use Rattle.acl_bits.specs.Row.{row_of, IsRow}
-use Rattle.acl_bits.specs.RowLaws.{numbers_below}
+use Rattle.acl_bits.specs.inside.RowLaws.{numbers_below}
 
--- ---- how many, and which comes at a place
+-- ---- how many members there are, and which member has a given index
 
 pub length-numbers_below : (p : ℕ → Bool) (n : ℕ) → length (numbers_below p (suc n)) ≡ length (numbers_below p n) + cond (p n) 1 0
 unfolding numbers_below
@@ -32,7 +32,7 @@ count_by_one : (b : Bool) (k n : ℕ) → count_by (λ m. ltb m k) (cond b (n �
 count_by_one true k n = grind (arith, nat_tests)
 count_by_one false k n = grind (arith, nat_tests)
 
--- all members are below a bound from n on
+-- all members are below any bound that is at least n
 pub count_by-numbers_below_all : (p : ℕ → Bool) (n k : ℕ) → n ≤ k → count_by (λ m. ltb m k) (numbers_below p n) ≡ length (numbers_below p n)
 unfolding numbers_below
 count_by-numbers_below_all p zero k h = refl
@@ -43,7 +43,7 @@ count_by-numbers_below_all p (suc n) k h =
     let rest = count_by-numbers_below_all p n k (omega arith) in
     e ∙ grind (arith, nat_tests, one, more, rest)
 
--- the members below k are those of the numbers below k
+-- the members below k are the numbers below k that pass
 pub count_by-numbers_below : (p : ℕ → Bool) (n k : ℕ) → k ≤ n → count_by (λ m. ltb m k) (numbers_below p n) ≡ length (numbers_below p k)
 unfolding numbers_below
 count_by-numbers_below p zero k h =
@@ -60,7 +60,7 @@ count_by-numbers_below p (suc n) k h = elim (cases_lt n k) [
       e ∙ grind (arith, nat_tests, one, rest)
 ]
 
--- the member k comes after the members below it
+-- the index of a member k is the number of members below it
 get_at_end : (xs : List ℕ) (k : ℕ) → slice_get (xs ++ k ∷ []) (length xs) ≡ Some k
 get_at_end [] k = refl
 get_at_end (x ∷ xs) k = get_at_end xs k
@@ -81,7 +81,7 @@ slice_get-numbers_below p (suc n) k h e = elim (cases_lt k n) [
       (ap (λ b. slice_get (numbers_below p k ++ cond b (k ∷ []) []) (length (numbers_below p k))) e ∙ get_at_end (numbers_below p k) k)
 ]
 
--- ---- the list of a set rises, and is below 256
+-- ---- the list of a set rises, and its members are below 256
 
 range_rises : (a n : ℕ) → IsStrictlyIncreasing (range_with_len a n)
 range_rises a n k h =

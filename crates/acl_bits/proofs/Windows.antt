@@ -1,4 +1,4 @@
--- Lemmas on windows of 40 bits: what is laid over bytes, and what is read from them.
+-- Lemmas on windows of 40 bits: what `put` writes into bytes by `or`, and what `take` reads from them.
 use Rattle.std.proofs.Common.{◌≡◌, ℕ, zero, suc, ◌+◌, ◌-◌, ◌*◌, ◌/◌, ◌%◌, ◌^◌, ◌<◌, ◌≤◌, Bool, true, false, eqb, ◌||◌, List, ◌++◌, length, get_or, take, drop, replicate, refl, ap, arith, subst, sym, ◌∙◌, bit_and, bit_or, max, min, set, length-set, get_or-set_other, inl, inr, mod-lt, length-drop, pow-add}
 use Rattle.std.specs.Int.{bit_at, div_ceil}
 use Rattle.std.proofs.lemmas.Bool.Decides.{nat_tests}
@@ -7,7 +7,7 @@ use Rattle.std.proofs.lemmas.Grind.{get_or-set_at}
 use Rattle.std.proofs.lemmas.List.{get_or_past, drop-drop, length-replicate, take_all}
 use Rattle.std.proofs.lemmas.Nat.{and_mask, shr_split, shr-shr, shl_whole, one_shl, pow_pos, or_lt}
 use Rattle.std.proofs.lemmas.Nat.Bits.{bit_at-lt, bit_at_or, bit_at-zero, bit_at_above, bit_at_cat_low, bit_at_cat_high}
-use Rattle.acl_bits.specs.Bits.{has_bit, bits_of, number_of, bits_of_bytes, bit_in, HoldBits, LaysOver, IsWindow}
+use Rattle.acl_bits.specs.FilledBits.{has_bit, bits_of, number_of, bits_of_bytes, bit_in, HoldBits, LaysOver, IsWindow}
 use Rattle.acl_bits.proofs.BitStrings.{answers, answers-same, answers-split, answers-bits_of, take-bits_of_bytes, drop-bits_of_bytes, bits_of_bytes-drop, take-answers, length-answers, length-bits_of_bytes, number_of-bits_of}
 
 -- ---- shifts
@@ -50,7 +50,7 @@ window_byte window k first m h l e =
     ∙ has_bit-mod (window / 2 ^ (32 - 8 * (k - first))) 8 (7 - m % 8) (omega arith)
     ∙ has_bit-shr window (32 - 8 * (k - first)) (7 - m % 8) ∙ ap (has_bit window) place
 
--- a place that the window covers
+-- a bit that the window covers
 laid_bit : (old new : List ℕ) (first window m : ℕ) → LaysOver old new first window → 8 * first ≤ m → m < 8 * first + 40
     → m < 8 * length old → bit_in new m ≡ (bit_in old m || has_bit window (39 - (m - 8 * first)))
 unfolding bit_in
@@ -60,11 +60,11 @@ laid_bit old new first window m laid h l u =
     ∙ or_bit (get_or old k 0) (bit_and (window / 2 ^ (32 - 8 * (k - first))) 0xff) (7 - m % 8)
     ∙ ap (λ b. has_bit (get_or old k 0) (7 - m % 8) || b) (window_byte window k first m (omega arith) (omega arith) refl)
 
--- the window that `put` makes of a value of n bits, at the end of a string of len bits
+-- the window that `put` makes from a value of n bits, after a string of len bits
 abbrev pub window_for : ℕ → ℕ → ℕ → ℕ
 window_for len value n = value * 2 ^ (40 - len % 8 - n)
 
--- before the string's end the window has no bit, then it has the value's, and then none
+-- before the string's end the bits of the window are 0, then come the value's bits, and then zeros
 window_before : (len value n m : ℕ) → value < 2 ^ n → n ≤ 32 → 8 * (len / 8) ≤ m → m < len
     → has_bit (window_for len value n) (39 - (m - 8 * (len / 8))) ≡ false
 window_before len value n m fits h l u =
@@ -77,9 +77,9 @@ window_within len value n m h l u =
     let place : 39 - (m - 8 * (len / 8)) - (40 - len % 8 - n) ≡ len + n - 1 - m = omega arith in
     has_bit-shl_high value (40 - len % 8 - n) (39 - (m - 8 * (len / 8))) (omega arith) ∙ ap (has_bit value) place
 
-window_behind : (len value n m : ℕ) → n ≤ 32 → len + n ≤ m → m < 8 * (len / 8) + 40
+window_after : (len value n m : ℕ) → n ≤ 32 → len + n ≤ m → m < 8 * (len / 8) + 40
     → has_bit (window_for len value n) (39 - (m - 8 * (len / 8))) ≡ false
-window_behind len value n m h l u = has_bit-shl_low value (40 - len % 8 - n) (39 - (m - 8 * (len / 8))) (omega arith)
+window_after len value n m h l u = has_bit-shl_low value (40 - len % 8 - n) (39 - (m - 8 * (len / 8))) (omega arith)
 
 pub or_false : (b c : Bool) → c ≡ false → (b || c) ≡ b
 or_false true c e = refl
@@ -98,7 +98,7 @@ same_byte : (old new : List ℕ) (m : ℕ) → get_or new (m / 8) 0 ≡ get_or o
 unfolding bit_in
 same_byte old new m e = ap (λ b. has_bit b (7 - m % 8)) e
 
--- the string as it was
+-- the bits of the string stay
 put_before : (old new : List ℕ) (len value n m : ℕ) → HoldBits old len → LaysOver old new (len / 8) (window_for len value n)
     → value < 2 ^ n → n ≤ 32 → m < len → bit_in new m ≡ bit_in old m
 put_before old new len value n m holds laid fits h l = elim (cases_lt m (8 * (len / 8))) [
@@ -108,7 +108,7 @@ put_before old new len value n m holds laid fits h l = elim (cases_lt m (8 * (le
       ∙ or_false (bit_in old m) (has_bit (window_for len value n) (39 - (m - 8 * (len / 8)))) (window_before len value n m fits h more l)
 ]
 
--- the value's bits
+-- after them come the value's bits
 put_within : (old new : List ℕ) (len value n m : ℕ) → HoldBits old len → LaysOver old new (len / 8) (window_for len value n)
     → n ≤ 32 → len + n ≤ 320 → len ≤ m → m < len + n → bit_in new m ≡ has_bit value (len + n - 1 - m)
 put_within old new len value n m holds laid h room l u =
@@ -116,35 +116,35 @@ put_within old new len value n m holds laid h room l u =
     ∙ false_or (bit_in old m) (has_bit (window_for len value n) (39 - (m - 8 * (len / 8)))) (holds.clear m l)
     ∙ window_within len value n m h l u
 
--- and zeros
-put_behind_near : (old new : List ℕ) (len value n m : ℕ) → HoldBits old len → LaysOver old new (len / 8) (window_for len value n)
+-- after these come zeros
+put_after_near : (old new : List ℕ) (len value n m : ℕ) → HoldBits old len → LaysOver old new (len / 8) (window_for len value n)
     → n ≤ 32 → len + n ≤ m → m < 320 → bit_in new m ≡ false
-put_behind_near old new len value n m holds laid h l near = elim (cases_lt m (8 * (len / 8) + 40)) [
+put_after_near old new len value n m holds laid h l near = elim (cases_lt m (8 * (len / 8) + 40)) [
   | inl covered ↦
       laid_bit old new (len / 8) (window_for len value n) m laid (omega arith) covered (omega (arith, holds.forty))
       ∙ false_or (bit_in old m) (has_bit (window_for len value n) (39 - (m - 8 * (len / 8)))) (holds.clear m (omega arith))
-      ∙ window_behind len value n m h l covered
-  | inr past ↦ same_byte old new m (laid.behind (m / 8) (omega arith)) ∙ holds.clear m (omega arith)
+      ∙ window_after len value n m h l covered
+  | inr past ↦ same_byte old new m (laid.after (m / 8) (omega arith)) ∙ holds.clear m (omega arith)
 ]
 
-put_behind : (old new : List ℕ) (len value n m : ℕ) → HoldBits old len → LaysOver old new (len / 8) (window_for len value n)
+put_after : (old new : List ℕ) (len value n m : ℕ) → HoldBits old len → LaysOver old new (len / 8) (window_for len value n)
     → n ≤ 32 → len + n ≤ m → bit_in new m ≡ false
-put_behind old new len value n m holds laid h l = elim (cases_lt m 320) [
-  | inl near ↦ put_behind_near old new len value n m holds laid h l near
+put_after old new len value n m holds laid h l = elim (cases_lt m 320) [
+  | inl near ↦ put_after_near old new len value n m holds laid h l near
   | inr past ↦ bit_past new m (omega (arith, laid.long, holds.forty))
 ]
 
--- the bytes hold the longer string
+-- the new bytes hold the longer string
 pub HoldBits-put : (old new : List ℕ) (len value n : ℕ) → HoldBits old len → LaysOver old new (len / 8) (window_for len value n)
     → n ≤ 32 → len + n ≤ 320 → HoldBits new (len + n)
 HoldBits-put old new len value n holds laid h room = record {
   forty = laid.long ∙ holds.forty;
   fit = laid.fit;
   within = room;
-  clear = λ m l. put_behind old new len value n m holds laid h l;
+  clear = λ m l. put_after old new len value n m holds laid h l;
 }
 
--- and it is the old string with the value's bits behind it
+-- the longer string is the old one followed by the value's bits
 pub bits-put : (old new : List ℕ) (len value n : ℕ) → HoldBits old len → LaysOver old new (len / 8) (window_for len value n)
     → value < 2 ^ n → n ≤ 32 → len + n ≤ 320
     → take (len + n) (bits_of_bytes new) ≡ take len (bits_of_bytes old) ++ bits_of n value
@@ -161,7 +161,7 @@ bits-put old new len value n holds laid fits h room =
 
 -- ---- what `take` reads
 
--- the bits of what is cut out of the window
+-- the bits of the number that is cut out of the window
 cut_bits : (rest : List ℕ) (window used n : ℕ) → IsWindow window rest → used < 8 → n ≤ 32
     → bits_of n (window / 2 ^ (40 - used - n) % 2 ^ n) ≡ answers (bit_in rest) used n
 cut_bits rest window used n window_is h l =
@@ -171,7 +171,7 @@ cut_bits rest window used n window_is h l =
     has_bit-mod (window / 2 ^ (40 - used - n)) n (used + n - 1 - m) (omega arith)
     ∙ has_bit-shr window (40 - used - n) (used + n - 1 - m) ∙ ap (has_bit window) place ∙ window_is.bits m (omega arith))
 
--- the number cut out is that of the next n bits
+-- the number that is cut out is the number of the next n bits
 pub number-cut : (rest : List ℕ) (window used n : ℕ) → IsWindow window rest → used < 8 → n ≤ 32 → used + n ≤ 8 * length rest
     → window / 2 ^ (40 - used - n) % 2 ^ n ≡ number_of (take n (drop used (bits_of_bytes rest)))
 number-cut rest window used n window_is h l room =
@@ -182,7 +182,7 @@ number-cut rest window used n window_is h l room =
     ∙ sym (ap (take n) (drop-bits_of_bytes rest used (omega arith) ∙ ap (answers (bit_in rest) used) parts)
     ∙ take-answers (bit_in rest) used n (8 * length rest - used - n)))
 
--- the bits left behind them
+-- the bits that are left after them
 pub bits-cut : (rest : List ℕ) (used n : ℕ)
     → drop ((used + n) % 8) (bits_of_bytes (drop ((used + n) / 8) rest)) ≡ drop n (drop used (bits_of_bytes rest))
 bits-cut rest used n =
@@ -256,16 +256,16 @@ HoldBits-zeros n e = record {
 pub HoldBits-none : HoldBits (replicate {A = ℕ} 40 0) 0
 HoldBits-none = HoldBits-zeros 40 refl
 
--- ---- the ends of `lay_over`, `put` and `take`
+-- ---- the last steps of `lay_over`, `put` and `take`
 
--- the bytes from `first` up to i have the window over them, and the others are as they were
+-- the bytes from `first` up to i are combined with the window, and the others are unchanged
 pub record LaysUpTo (old new : List ℕ) (first window i : ℕ) : Type 0 where
   pub long : length new ≡ 40
   pub fit : (k : ℕ) → get_or new k 0 < 256
   pub written : (k : ℕ) → first ≤ k → k < i
       → get_or new k 0 ≡ bit_or (get_or old k 0) (bit_and (window / 2 ^ (32 - 8 * (k - first))) 0xff)
   pub before : (k : ℕ) → k < first → get_or new k 0 ≡ get_or old k 0
-  pub behind : (k : ℕ) → i ≤ k → get_or new k 0 ≡ get_or old k 0
+  pub after : (k : ℕ) → i ≤ k → get_or new k 0 ≡ get_or old k 0
 
 pub LaysUpTo-none : (old : List ℕ) (first window : ℕ) → length old ≡ 40 → ((k : ℕ) → get_or old k 0 < 256)
     → LaysUpTo old old first window first
@@ -274,7 +274,7 @@ LaysUpTo-none old first window long fit = record {
   fit = fit;
   written = λ k l u. absurd (omega arith);
   before = λ k l. refl;
-  behind = λ k l. refl;
+  after = λ k l. refl;
 }
 
 pub LaysUpTo-more : (old new : List ℕ) (first window i : ℕ) → LaysUpTo old new first window i → first ≤ i → i < 40
@@ -294,12 +294,12 @@ LaysUpTo-more old new first window i so_far h l =
       ];
       written = λ k a u. elim (cases_eq k i) [
         | inl here ↦
-            get_or-set_at new i k byte 0 here (omega (arith, so_far.long)) ∙ ap (λ b. bit_or b laid) (so_far.behind i (omega arith))
+            get_or-set_at new i k byte 0 here (omega (arith, so_far.long)) ∙ ap (λ b. bit_or b laid) (so_far.after i (omega arith))
             ∙ ap (λ x. bit_or (get_or old x 0) (bit_and (window / 2 ^ (32 - 8 * (x - first))) 0xff)) (sym here)
         | inr elsewhere ↦ get_or-set_other new i k byte 0 elsewhere ∙ so_far.written k a (grind arith)
       ];
       before = λ k a. get_or-set_other new i k byte 0 (λ e. omega arith) ∙ so_far.before k a;
-      behind = λ k a. get_or-set_other new i k byte 0 (λ e. omega arith) ∙ so_far.behind k (omega arith);
+      after = λ k a. get_or-set_other new i k byte 0 (λ e. omega arith) ∙ so_far.after k (omega arith);
     }
 
 pub LaysUpTo-done : (old new : List ℕ) (first window i : ℕ) → length old ≡ 40 → min (first + 5) 40 ≤ i → i ≤ first + 5
@@ -309,7 +309,7 @@ LaysUpTo-done old new first window i long_old over under laid = record {
   fit = laid.fit;
   written = λ k l u r. laid.written k l (omega arith);
   before = laid.before;
-  behind = λ k l. laid.behind k (omega arith);
+  after = λ k l. laid.after k (omega arith);
 }
 
 pub length-held : (bytes : List ℕ) (len : ℕ) → HoldBits bytes len → length (take len (bits_of_bytes bytes)) ≡ len

@@ -9,8 +9,8 @@ use Rattle.std.proofs.lemmas.List.Folds.{list_any-append}
 use Rattle.std.proofs.lemmas.Nat.{or_lt, and_le_l, and_mask, mod-pow-add, pow_pos}
 use Rattle.std.proofs.lemmas.Nat.Bits.{shr_and_one, bit_at_set_same, bit_at_set_other, bit_at-zero, bit_at-lt, bit_at_or, bit_at_and, bit_at-trailing_zeros, bit_at_ones, bit_at_ones_above}
 use Rattle.acl_bits.specs.Row.{row_of, is_member, is_set, members_of, AreWords, words_of}
-use Rattle.acl_bits.specs.RowLaws.{numbers_below, range_with_len-more, row_of-numbers_below, row_of-same, is_member-row_of, is_member-row_of_past}
-use Rattle.acl_bits.specs.RowWords.{is_set_at, words_of-members}
+use Rattle.acl_bits.specs.inside.RowLaws.{numbers_below, range_with_len-more, row_of-numbers_below, row_of-same, is_member-row_of, is_member-row_of_past}
+use Rattle.acl_bits.specs.inside.RowWords.{is_set_at, words_of-members}
 use Rattle.acl_bits.proofs.Members.{length-numbers_below, count_by-numbers_below, count_by-numbers_below_all, slice_get-numbers_below}
 use lib.Count.{ones_cat, ones-ones}
 use Rattle.std.specs.Cmp.Lexicographic.{pointwise, bytes_decides}
@@ -55,7 +55,7 @@ members_of-zeros =
 
 -- ---- `put`
 
--- the word after `|= 1 << n % 64`
+-- the word after `|= 1 << (n % 64)`
 abbrev pub word_after : List ℕ → ℕ → ℕ
 word_after words n = bit_or (get_or words (n / 64) 0) (1 * 2 ^ (n % 64) % 2 ^ 64)
 
@@ -156,7 +156,7 @@ list_any-numbers_below_none p q (suc n) h =
 both_digits : (x y : ℕ) → x < 2 → y < 2 → min x y ≡ 1 → (x ≡ 1) × (y ≡ 1)
 both_digits x y h l e = (omega arith, omega arith)
 
--- a word in which both have a bit has the place of a common member
+-- a word in which both have a bit gives a common member
 pub meets_some : (a b : List ℕ) (i : ℕ) → AreWords a → i < 4 → (bit_and (get_or a i 0) (get_or b i 0) ≡ 0 → ⊥)
     → list_any (is_member (members_of b)) (members_of a) ≡ true
 meets_some a b i words h common =
@@ -286,7 +286,7 @@ count_by-members words n =
 pub length-members : (words : List ℕ) → length (numbers_below (is_set words) 256) ≡ length (members_of words)
 length-members words = ap length (sym (row_of-numbers_below (is_set words)))
 
--- the number of members below 0, and below 256
+-- how many members are below 0, and below 256
 pub count_by-none : (xs : List ℕ) → row_of (is_member xs) ≡ xs → count_by (λ m. ltb m 0) xs ≡ 0
 unfolding numbers_below
 count_by-none xs whole =
@@ -302,7 +302,7 @@ found_here : (b : Bool) (i k : ℕ) → i ≤ k → k < i + cond b 1 0 → (b �
 found_here true i k h l = (refl, omega arith)
 found_here false i k h l = absurd (omega arith)
 
--- the number at which the count of members below passes k
+-- member k is the number with at most k members below it, and with more than k members below the next number
 pub slice_get-found : (xs : List ℕ) (k low high : ℕ) → row_of (is_member xs) ≡ xs → low < high → high ≤ low + 1 → high ≤ 256
     → count_by (λ m. ltb m low) xs ≤ k → k < count_by (λ m. ltb m high) xs → slice_get xs k ≡ Some low
 slice_get-found xs k low high whole below_high next top before after =
@@ -412,7 +412,7 @@ join_kept words old i w kept k l =
     let apart : k ≡ i → ⊥ = λ e. omega arith in
     get_or-set_other words i k w 0 apart ∙ kept k (omega arith)
 
--- ---- the last of `ones_before`
+-- ---- the last step of `ones_before`
 
 pub length-no_part : (words : List ℕ) (n ones i : ℕ) → n ≤ 256 → 4 ≤ n / 64 → i ≤ n / 64 → n / 64 ≤ i
     → ones ≡ length (numbers_below (is_set words) (64 * i)) → ones ≡ length (numbers_below (is_set words) n)

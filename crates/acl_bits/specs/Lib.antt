@@ -1,5 +1,4 @@
-pub mod Bits
+pub mod FilledBits
 pub mod Flags
 pub mod Row
-pub mod RowLaws
-pub mod RowWords
+pub mod inside

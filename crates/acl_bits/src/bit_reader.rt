@@ -1,14 +1,14 @@
-//! A string of bits that is taken from its front: the bytes from the first that still has a bit,
-//! and how many bits of that byte are taken.
+//! Reads a bit string from its start. A reader is the bytes that still have unread bits, and how many bits of the
+//! first of them were read.
 
 ghost use Rattle.std.specs.Prelude.{◌≡◌, ◌↔◌, ◌<◌, ◌≤◌, length, take, drop, slice_index, IsErr, IfOk, OnOk, OnErr};
-ghost use Rattle.acl_bits.specs.Bits.{bits_of_bytes, number_of, IsWindow};
+ghost use Rattle.acl_bits.specs.FilledBits.{bits_of_bytes, number_of, IsWindow};
 
 use crate::shortage::Short;
 use std::marker::Model;
 
-/// The bits of some bytes that are left, the highest of each byte first. Contracts see them in
-/// order.
+/// A reader of the bits of some bytes, the highest bit of each byte first. In contracts it is the list of the bits
+/// that are left.
 #[derive(Debug, Drop)]
 pub struct BitIn<'a> {
     rest: &'a [u8],
@@ -17,7 +17,7 @@ pub struct BitIn<'a> {
 
 impl<'a> Model for BitIn<'a> {
     ghost use Rattle.std.specs.Prelude.{List, Bool, drop, ◌<◌, ◌≤◌, ◌*◌, length};
-    ghost use Rattle.acl_bits.specs.Bits.{bits_of_bytes};
+    ghost use Rattle.acl_bits.specs.FilledBits.{bits_of_bytes};
 
     ghost Value = { List Bool };
 
@@ -27,7 +27,7 @@ impl<'a> Model for BitIn<'a> {
 }
 
 impl<'a> BitIn<'a> {
-    /// All bits of the bytes.
+    /// A reader of all bits of the bytes.
     pub fn new(bytes: &'a [u8]) -> BitIn<'a>
         ensures { result ≡ bits_of_bytes bytes.now }
     {
@@ -37,8 +37,8 @@ impl<'a> BitIn<'a> {
         }
     }
 
-    /// Takes the next `n` bits, as the number that they make with the highest first. `Short` comes
-    /// exactly where fewer are left, and nothing is taken then.
+    /// Takes the next `n` bits and returns the number that they make, the highest bit first. Where fewer than `n` are
+    /// left it returns `Short` and takes nothing.
     pub fn take(&mut self, n: u32) -> Result<u32, Short>
         requires { n ≤ 32 }
         ensures value { IfOk result (λ value. value ≡ number_of (take n self.old)) }
@@ -57,7 +57,7 @@ impl<'a> BitIn<'a> {
     }
 }
 
-/// The first five bytes as one number, the highest first, with zeros where there are fewer.
+/// The first five bytes as one big-endian number, with zeros where there are fewer.
 fn window_of(bytes: &[u8]) -> u64
     ensures { IsWindow result bytes.now }
 {
@@ -68,7 +68,7 @@ fn window_of(bytes: &[u8]) -> u64
     window
 }
 
-/// The byte at a place, or 0 past the end.
+/// Byte `i`, or 0 past the end.
 fn byte_at(bytes: &[u8], i: usize) -> u8
     ensures { result ≡ slice_index bytes.now i }
 {

@@ -1,15 +1,14 @@
-//! A string of bits that grows, in forty bytes: the bytes behind the string are zero, so a value is
-//! laid over them by `or`.
+//! Writes a bit string into forty bytes. All bits after the string are zero, so a value is added by bitwise `or`.
 
 ghost use Rattle.std.specs.Prelude.{◌≡◌, ◌+◌, ◌^◌, ◌<◌, ◌≤◌, [], ◌++◌, length, ℕ, Bool, List};
-ghost use Rattle.acl_bits.specs.Bits.{bits_of, bits_of_bytes, bytes_of, filled_bits, number_of, LaysOver};
+ghost use Rattle.acl_bits.specs.FilledBits.{bits_of, bits_of_bytes, bytes_of, filled_bits, number_of, LaysOver};
 
 use std::marker::Model;
 
-/// The bytes that there is room for.
+/// The most bytes that a string may have.
 const ROOM: usize = 40;
 
-/// A string of at most 320 bits, to which values are added. Contracts see the bits in order.
+/// A bit string of at most 320 bits, to which values are appended. In contracts it is the list of its bits.
 #[derive(Debug, Drop)]
 pub struct BitOut {
     bytes: [u8; 40],
@@ -18,7 +17,7 @@ pub struct BitOut {
 
 impl Model for BitOut {
     ghost use Rattle.std.specs.Prelude.{List, Bool, take};
-    ghost use Rattle.acl_bits.specs.Bits.{bits_of_bytes, HoldBits};
+    ghost use Rattle.acl_bits.specs.FilledBits.{bits_of_bytes, HoldBits};
 
     ghost Value = { List Bool };
 
@@ -28,7 +27,7 @@ impl Model for BitOut {
 }
 
 impl BitOut {
-    /// No bits.
+    /// The empty string.
     pub fn new() -> BitOut
         ensures { result ≡ [] }
     {
@@ -38,7 +37,7 @@ impl BitOut {
         }
     }
 
-    /// Adds the `n` lowest bits of `value`, the highest of them first.
+    /// Appends the `n` lowest bits of `value`, the highest of them first.
     pub fn put(&mut self, value: u32, n: u32)
         requires width { n ≤ 32 }
         requires fits { value < 2 ^ n }
@@ -51,7 +50,7 @@ impl BitOut {
         self.len += n;
     }
 
-    /// The bytes of the string: the highest bit of each first, the last filled with zero bits.
+    /// The bytes of the string, the highest bit of each byte first. The last byte is padded with zero bits.
     pub fn bytes(&self) -> &[u8]
         ensures { result.now ≡ bytes_of self.now }
     {
@@ -59,8 +58,8 @@ impl BitOut {
     }
 }
 
-/// A law: the bits put are the bits taken. The bytes of a string of bits have its bits again, with
-/// zero bits up to a whole byte, and a value and its bits make one another again.
+/// A law: the bits that are put are the bits that are taken. The bits of a string's bytes are the string, padded with
+/// zero bits to a whole byte. A value can be computed from its bits, and the bits from the value.
 pub fn bits_put_are_bits_taken()
     ensures bits { (bits : List Bool) → bits_of_bytes (bytes_of bits) ≡ filled_bits bits }
     ensures value { (n value : ℕ) → value < 2 ^ n → number_of (bits_of n value) ≡ value }
@@ -69,7 +68,8 @@ pub fn bits_put_are_bits_taken()
     ensures small { (bits : List Bool) → number_of bits < 2 ^ length bits }
 {}
 
-/// Lays the 40 lowest bits of `window` over the bytes from `first` on, by `or`, as far as they go.
+/// Combines the 40 lowest bits of `window` by bitwise `or` with the five bytes from index `first` on. Bits past the
+/// last byte are dropped.
 fn lay_over(bytes: &mut [u8; 40], first: usize, window: u64)
     requires { first ≤ 40 }
     ensures { LaysOver bytes.old bytes.new first window }

@@ -2,7 +2,7 @@
 //! The bits after the last flag are 0.
 
 ghost use Rattle.std.specs.Prelude.{◌≡◌, ◌<◌, ◌+◌, ◌==◌, [], ◌∷◌, ◌++◌, length, take, drop, get_or, replicate, IfOk, ℕ, true, false};
-ghost use Rattle.acl_bits.specs.Bits.{has_bit};
+ghost use Rattle.acl_bits.specs.FilledBits.{has_bit};
 ghost use Rattle.acl_bits.specs.Flags.{risen, rises, flag_before, AreRisen};
 
 use std::alloc::{AllocError, Global};
@@ -11,7 +11,7 @@ use std::marker::Model;
 #[cfg(test)]
 mod tests;
 
-/// A list of flags, 64 to a word. Contracts see the list.
+/// A list of flags, 64 to a machine word. In contracts it is the list of the flags' values.
 #[derive(Debug, Drop)]
 pub struct Flags {
     words: Vec<u64>,
@@ -30,7 +30,7 @@ impl Model for Flags {
 }
 
 impl Flags {
-    /// No flags.
+    /// The empty list.
     pub fn new(alloc: Global) -> Flags
         ensures { result ≡ [] }
     {
@@ -40,7 +40,7 @@ impl Flags {
         }
     }
 
-    /// Adds `count` flags that are not set.
+    /// Appends `count` flags that are not set. After an error the list is unspecified.
     pub fn grow(&mut self, count: usize) -> Result<(), AllocError>
         ensures { IfOk result (λ done. self.new ≡ self.old ++ replicate count false) }
     {
@@ -57,7 +57,7 @@ impl Flags {
         self.len
     }
 
-    /// Whether flag `n` is set. There is none past the end.
+    /// Whether flag `n` is set; false past the end.
     pub fn has(&self, n: usize) -> bool
         ensures { result ≡ get_or self.now n false }
     {
@@ -72,7 +72,7 @@ impl Flags {
         self.words[n / 64] |= 1 << (n % 64);
     }
 
-    /// Takes what holds one element further in outward: see `risen`.
+    /// Updates the flags of an element from those of a child, `below`, as the definition `risen` says.
     pub fn rise(&mut self, below: &Flags, tests: &Flags, deep: &Flags)
         requires below { length below.now ≡ length self.old }
         requires tests { length tests.now ≡ length self.old }
@@ -83,7 +83,7 @@ impl Flags {
     }
 }
 
-/// The rise of all words, the lowest first.
+/// Updates all words as `rise` does, from the first word to the last.
 fn rise_words(own: &mut [u64], tests: &[u64], deep: &[u64], below: &[u64])
     requires tests { length tests.now ≡ length own.old }
     requires deep { length deep.now ≡ length own.old }
@@ -97,7 +97,7 @@ fn rise_words(own: &mut [u64], tests: &[u64], deep: &[u64], below: &[u64])
     }
 }
 
-/// The rise of one word. `carry` is the last flag that the word before has below.
+/// Updates one word as `rise` does. `carry` is the highest bit of the child's word before this one.
 fn risen_word(own: u64, tests: u64, deep: u64, below: u64, carry: u64) -> u64
     requires { carry < 2 }
     ensures { (i : ℕ) → i < 64

@@ -1,5 +1,5 @@
-//! Sets of numbers from 0 to 255, lists of flags, strings of bits in bytes, and pieces of texts.
-//! Only lists of flags take memory.
+//! Sets of numbers from 0 to 255, lists of flags, bit strings in bytes, and pieces of texts. Only lists of flags
+//! allocate memory.
 #![tactic(auto)]
 
 pub use bit_reader::BitIn;

@@ -1,20 +1,20 @@
-//! A set of numbers from 0 to 255 in four words: number `n` is a member exactly where bit `n % 64`
-//! of word `n / 64` is 1.
+//! A set of numbers from 0 to 255 in four machine words: number `n` is a member exactly where bit `n % 64` of word
+//! `n / 64` is 1.
 
 ghost use Rattle.std.specs.Prelude.{◌≡◌, ◌↔◌, ◌<◌, ◌≤◌, ◌==◌, ◌||◌, ◌-◌, ◌^◌, nat_lt, min, [], length, count_by, slice_get, IsNone, IfSome, MatchOption, ◌∷◌, ℕ, Bool, false};
 ghost use Rattle.std.specs.List.{range_with_len, list_any};
 ghost use Rattle.acl_bits.specs.Row.{row_of, is_member, is_set, IsRow, IsFirst};
-ghost use Rattle.acl_bits.specs.RowLaws.{numbers_below};
+ghost use Rattle.acl_bits.specs.inside.RowLaws.{numbers_below};
 
 use std::marker::Model;
 
 #[cfg(test)]
 mod tests;
 
-/// The numbers that a set may hold: those below.
+/// A set contains numbers below this one only.
 const NUMBERS: u16 = 256;
 
-/// A set of numbers from 0 to 255. Contracts see its members in rising order.
+/// A set of numbers from 0 to 255. In contracts it is the list of its members in rising order.
 #[derive(Clone, Copy, Debug)]
 pub struct Row {
     words: [u64; 4],
@@ -24,7 +24,7 @@ impl Model for Row {
     ghost use Rattle.std.specs.Prelude.{List, ℕ};
     ghost use Rattle.acl_bits.specs.Row.{AreWords, members_of, words_of};
     ghost use Rattle.std.proofs.Common.{ap};
-    ghost use Rattle.acl_bits.specs.RowWords.{words_of-members};
+    ghost use Rattle.acl_bits.specs.inside.RowWords.{words_of-members};
 
     ghost Value = { List ℕ };
 
@@ -67,7 +67,7 @@ impl Row {
         Row { words: [0; 4] }
     }
 
-    /// The numbers from 0 on, `count` of them.
+    /// The set of the first `count` numbers, beginning with 0.
     pub fn full(count: u16) -> Row
         requires { count ≤ 256 }
         ensures { result ≡ range_with_len 0 count }
@@ -82,14 +82,14 @@ impl Row {
         }
     }
 
-    /// Whether `n` is a member. No number from 256 on is one.
+    /// Whether `n` is a member; false from 256 on.
     pub fn has(&self, n: u16) -> bool
         ensures { result ≡ is_member self.now n }
     {
         n < NUMBERS && self.words[(n / 64) as usize] >> (n % 64) & 1 == 1
     }
 
-    /// Makes `n` a member.
+    /// Adds `n`.
     pub fn put(&mut self, n: u16)
         requires { n < 256 }
         ensures { self.new ≡ row_of (λ m. m == n || is_member self.old m) }
@@ -109,7 +109,7 @@ impl Row {
         false
     }
 
-    /// Makes each member of `other` a member.
+    /// Adds each member of `other`.
     pub fn join(&mut self, other: &Row)
         ensures { self.new ≡ row_of (λ m. is_member self.old m || is_member other.now m) }
     {
@@ -122,7 +122,7 @@ impl Row {
     pub fn count(&self) -> u16
         ensures number { result ≡ length self.now }
 
-        // What each set is: its members rise and are below 256, and they alone tell it.
+        // The members of each set rise and are below 256, and a set is determined by them.
         ensures row { IsRow self.now }
         ensures whole { row_of (is_member self.now) ≡ self.now }
     {
@@ -136,7 +136,7 @@ impl Row {
         ones_before(&self.words, n.min(NUMBERS))
     }
 
-    /// The member that has `k` members below it, if there are more than `k`.
+    /// The member that has exactly `k` members below it, or `None` where there are at most `k` members.
     pub fn nth(&self, k: u16) -> Option<u16>
         ensures value { result ≡ slice_get self.now k }
         ensures none { IsNone result ↔ (length self.now ≤ k) }
@@ -157,7 +157,8 @@ impl Row {
         Some(low)
     }
 
-    /// Takes out the least member, if there is one. So a loop goes over all members, in rising order, in as many steps.
+    /// Removes the least member and returns it, if there is one. A loop that calls this visits all members in rising
+    /// order.
     pub fn take_first(&mut self) -> Option<u16>
         ensures first { MatchOption result (self.old ≡ []) (λ n. self.old ≡ n ∷ self.new) }
         ensures small { IfSome result (λ n. n < 256) }
@@ -169,14 +170,14 @@ impl Row {
     }
 }
 
-/// A law: of the numbers below 256, a set that a test makes has those that pass, in rising order.
+/// A law: the set `row_of test` contains exactly the numbers below 256 that pass the test, in rising order.
 pub fn sets_have_what_passes()
     ensures member { (test : ℕ → Bool) (n : ℕ) → n < 256 → is_member (row_of test) n ≡ test n }
     ensures past { (test : ℕ → Bool) (n : ℕ) → 256 ≤ n → is_member (row_of test) n ≡ false }
     ensures row { (test : ℕ → Bool) → IsRow (row_of test) }
 {}
 
-/// The word whose lowest `count` bits are 1, or all bits where there are no more.
+/// The word whose lowest `count` bits are 1; all its bits where `count` is 64 or more.
 fn low_ones(count: u16) -> u64
     ensures { result ≡ 2 ^ min count 64 - 1 }
 {
@@ -187,7 +188,7 @@ fn low_ones(count: u16) -> u64
     }
 }
 
-/// The least number that the words have.
+/// The least number that the words contain, or `None` where there is none.
 fn first_of(words: &[u64; 4]) -> Option<u16>
     ensures { MatchOption result
         ((n : ℕ) → n < 256 → is_set words.now n ≡ false)
@@ -201,7 +202,7 @@ fn first_of(words: &[u64; 4]) -> Option<u16>
     None
 }
 
-/// How many of the first `n` bits of the words are 1.
+/// How many of the first `n` bits of the words are 1, counted from the lowest bit of the first word.
 fn ones_before(words: &[u64; 4], n: u16) -> u16
     requires { n ≤ 256 }
     ensures { result ≡ length (numbers_below (is_set words.now) n) }

@@ -1,13 +1,13 @@
-//! A part of a text or of a raw attribute, as it is handed on: at most 256 bytes, in place.
+//! A part of a text or of a raw attribute: at most 256 bytes, stored in the value itself.
 
 use arrayvec::ArrayVec;
 
-/// A part of a text or an attribute. Parts have 1 to 256 bytes, or an empty text or attribute is
-/// one empty part, and only the last part is marked.
+/// A part of a text or of an attribute. Each part has 1 to 256 bytes, but for an empty text or attribute, which is one
+/// empty part.
 #[derive(Clone, Debug, Drop, PartialEq, Eq)]
 pub struct Piece {
     /// Its bytes.
     pub bytes: ArrayVec<u8, 256>,
-    /// Whether the text or the attribute ends with it.
+    /// Whether this is the last part of the text or the attribute.
     pub last: bool,
 }

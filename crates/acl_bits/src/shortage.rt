@@ -1,4 +1,4 @@
-//! The error of a string of bits that is too short.
+//! The error of a bit string that is too short.
 
 /// Fewer bits are left than were asked for.
 #[derive(Debug, Drop, Clone, Copy, PartialEq, Eq)]

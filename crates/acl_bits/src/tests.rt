@@ -33,8 +33,8 @@ fn values_cross_the_edges_of_bytes(rt: HostRuntime) {
     );
 }
 
-// The head of the root of a small index, written out by hand: a first bit, the place among four
-// names, whether there are children, the names below, and a length in five bits.
+// The beginning of a small Skip index, written out by hand. Its fields are a first bit, the root's number among four
+// names, whether the root has children, the names inside it, and a length in five bits.
 #[test]
 fn a_head_of_an_index_is_read_bit_by_bit(rt: HostRuntime) {
     let mut bits = BitIn::new(&[0b1001_0111, 0b1011_0000]);
@@ -54,7 +54,7 @@ fn a_head_of_an_index_is_read_bit_by_bit(rt: HostRuntime) {
     assert_eq!(rt; bits.take(0), Ok(0));
 }
 
-/// Puts a value where it and its width fit, and ends the test where they don't.
+/// Puts a value if it and its width fit, and aborts the test if not.
 fn put_within(rt: &impl Abort, out: &mut BitOut, room: &mut u32, width: u32, value: u32)
     requires { length out.old + room.old ≤ 320 }
     ensures { length out.new + room.new ≤ 320 }
@@ -65,7 +65,7 @@ fn put_within(rt: &impl Abort, out: &mut BitOut, room: &mut u32, width: u32, val
     *room -= width;
 }
 
-/// The greatest value of so many bits.
+/// The greatest value of `width` bits.
 fn low_mask(width: u32) -> u32
     requires { width ≤ 32 }
     ensures { result + 1 ≡ 2 ^ width }
@@ -112,7 +112,7 @@ fn what_is_put_is_taken_up_to_forty_bytes(rt: HostRuntime) {
     assert_eq!(rt; bits.take(1), Err(Short));
 }
 
-// Ten bits are asked for where nine are left, and then the nine are still there.
+// A failed call for ten bits leaves the nine bits that there are.
 #[test]
 fn a_take_past_the_end_takes_nothing(rt: HostRuntime) {
     let mut bits = BitIn::new(&[0xFF, 0x2D]);

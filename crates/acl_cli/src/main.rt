@@ -1,10 +1,11 @@
-//! The program `acl`: it hands the named files and the standard streams to the top call, says on standard error how the
-//! run ended, and ends with that outcome's number.
+//! The program `acl`. It passes the files that the command line names and the standard streams to `run` of `acl_run`,
+//! writes the outcome to standard error, and exits with the outcome's number. In names, `words` are the arguments
+//! without the program's name.
 #![tactic(auto)]
 
 use acl_outside::{FileStore, ReaderSource, WriterSink};
 use acl_run::{Outcome, outcome_text, run, status};
-use acl_usage::in_words;
+use acl_usage::message_for;
 use acl_words::named_files;
 use std::alloc::Global;
 use std::env;
@@ -13,8 +14,8 @@ use std::fs::File;
 use std::io::{BufWriter, ErrorKind, Read, Stdin, Write};
 use std::process::ExitCode;
 
-/// The words of the command line without the program's name. Words that aren't text are no command line.
-fn words_given(rt: &(impl Env + AllocGlobal)) -> Result<Vec<String>, Outcome> {
+/// The arguments without the program's name. The outcome is Usage where some argument isn't UTF-8.
+fn given_arguments(rt: &(impl Env + AllocGlobal)) -> Result<Vec<String>, Outcome> {
     let given = match env::args(rt) {
         Ok(given) => given,
         Err(fault) if fault.kind() == ErrorKind::OutOfMemory => return Err(Outcome::NoMemory),
@@ -29,9 +30,9 @@ fn words_given(rt: &(impl Env + AllocGlobal)) -> Result<Vec<String>, Outcome> {
     Ok(words)
 }
 
-/// Standard input, unless it is closed. This is asked before a file is opened, which would take the number of a closed
-/// stream and be read in its place.
-fn input_given(rt: &HostRuntime) -> Option<Stdin> {
+/// Standard input, unless it is closed. This must run before a file is opened: the file would get the descriptor of the
+/// closed stream, and would be read in its place.
+fn open_input(rt: &HostRuntime) -> Option<Stdin> {
     let mut input = rt.stdin();
     match input.read(&mut []) {
         Ok(_) => Some(input),
@@ -39,12 +40,12 @@ fn input_given(rt: &HostRuntime) -> Option<Stdin> {
     }
 }
 
-/// The file of this name, if one is named and can be opened.
+/// The file with this name. `None` where there is no name or the file can't be opened.
 fn opened(rt: &HostRuntime, name: Option<&str>) -> Option<File> {
     File::open(rt, name?).ok()
 }
 
-/// The files that the words name: of the keys or the rules, and of the store. Words that are no command line name none.
+/// The files that the arguments name: that of the keys or the rules, and the store. A faulty command line opens none.
 fn open_files(rt: &HostRuntime, words: &[String]) -> (Option<File>, Option<File>) {
     match named_files(words) {
         Some(files) => (
@@ -55,9 +56,9 @@ fn open_files(rt: &HostRuntime, words: &[String]) -> (Option<File>, Option<File>
     }
 }
 
-/// The run over the real objects. A file that no word names, or that can't be opened, is handed in as one that isn't there.
+/// Runs `acl_run` on real files and streams. A file that isn't named, or can't be opened, fails at its first read.
 fn run_over_streams(rt: &HostRuntime, words: &[String]) -> Outcome {
-    let mut input = ReaderSource::new(input_given(rt));
+    let mut input = ReaderSource::new(open_input(rt));
     let (keys, store) = open_files(rt, words);
     let mut keys = ReaderSource::new(keys);
     let mut store = FileStore::new(store);
@@ -77,18 +78,18 @@ fn run_over_streams(rt: &HostRuntime, words: &[String]) -> Outcome {
     )
 }
 
-/// Says on standard error how the run of these words ended, in the outcome's line and then in words. Where there is no
-/// memory for the words, they are left out.
+/// Writes to standard error how the run ended: the outcome's line, and then the explanation, which is left out where
+/// memory runs out.
 fn write_end(rt: &HostRuntime, words: &[String], outcome: &Outcome) {
     let mut errors = WriterSink::new(rt.stderr());
     let _ = outcome_text(outcome, &mut errors);
-    if let Ok(more) = in_words(rt.alloc(), words, outcome) {
-        let _ = rt.stderr().write_all(more.as_bytes());
+    if let Ok(text) = message_for(rt.alloc(), words, outcome) {
+        let _ = rt.stderr().write_all(text.as_bytes());
     }
 }
 
 fn main(rt: HostRuntime) -> ExitCode {
-    let words = words_given(&rt);
+    let words = given_arguments(&rt);
     let (words, outcome) = match &words {
         Ok(words) => (words.as_slice(), run_over_streams(&rt, words.as_slice())),
         Err(outcome) => (&[] as &[String], *outcome),

@@ -1,4 +1,5 @@
--- What holds of an element where it holds of its children, holds of each element.
+-- Induction on elements: a property that is true of an element whenever it is true of its children is true of each
+-- element.
 use Rattle.std.proofs.Common.{◌≡◌, Some, List, [], ◌∷◌, map, sym, subst, ap, ◌∙◌, inl, inr}
 use Rattle.std.proofs.lemmas.Option.{same_Some}
 use Rattle.acl_model.specs.Places.{element_in, element_of, children}
@@ -11,7 +12,7 @@ use Rattle.acl_model.specs.declared.document.Item.TheOpen.{Item-F}
 use Rattle.acl_model.specs.declared.document.Item.TheFolds.{ind-Element, map-Item, map-Element}
 
 module _ (P : Element → Type 0) where
-  -- of the element that an item is
+  -- the property for the element of an item
   abbrev AtItem : Item → Type 0
   AtItem item = (e : Element) → element_of item ≡ Some e → P e
 

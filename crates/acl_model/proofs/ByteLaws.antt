@@ -1,4 +1,4 @@
--- The text of an element of the right form is bytes.
+-- The text of an element of the right form consists of bytes.
 use Rattle.std.proofs.Common.{◌≡◌, ℕ, Bool, true, false, ◌&&◌, ◌||◌, nat_le, List, [], ◌∷◌, ◌++◌, map, length, refl, ap, sym, ◌∙◌, subst, ◌⊎◌, inl, inr, arith}
 use Rattle.std.proofs.lemmas.Bool.{true≢false}
 use Rattle.std.proofs.lemmas.Bool.Decides.{nat_tests}
@@ -22,28 +22,28 @@ use Rattle.acl_model.specs.declared.document.Item.TheFolds.{ind-Element, map-Ite
 
 -- ---- names
 
--- A byte that may stand in a name is a byte.
+-- A number that a name may contain is a byte.
 pub continues_name-byte : (b : ℕ) → continues_name b ≡ true → is_byte b ≡ true
 continues_name-byte b continues = grind (arith, nat_tests)
 
--- And so are many.
+-- The same for a list of them.
 pub continues_name-bytes : (bytes : List ℕ) → list_all continues_name bytes ≡ true → are_bytes bytes ≡ true
 continues_name-bytes [] all = refl
 continues_name-bytes (b ∷ bytes) all =
     rw (continues_name-byte b (first_so (continues_name b) (list_all continues_name bytes) all), continues_name-bytes bytes (second_so (continues_name b) (list_all continues_name bytes) all)) refl
 
--- Each byte of a name may stand behind its first.
+-- Each byte of a name is one that a name may contain after its first.
 pub is_name-continues : (name : List ℕ) → is_name name ≡ true → list_all continues_name name ≡ true
 is_name-continues [] good = refl
 is_name-continues (b ∷ bytes) good =
     let spelled = first_so (begins_name b && list_all continues_name bytes) (nat_le (length (b ∷ bytes)) 255) good in
     rw (first_so (begins_name b) (list_all continues_name bytes) spelled, second_so (begins_name b) (list_all continues_name bytes) spelled) refl
 
--- A name is bytes.
+-- A name consists of bytes.
 pub is_name-bytes : (name : List ℕ) → is_name name ≡ true → are_bytes name ≡ true
 is_name-bytes name good = continues_name-bytes name (is_name-continues name good)
 
--- A name lacks each byte that may not stand in one.
+-- A name doesn't contain a byte that names may not contain.
 pub is_name-lacks : (c : ℕ) → continues_name c ≡ false → (name : List ℕ) → is_name name ≡ true → lacks c name ≡ true
 is_name-lacks c fails name good = lacks-list_all continues_name c fails name (is_name-continues name good)
 
@@ -60,20 +60,20 @@ is_dummy_name-bytes [] good = refl
 is_dummy_name-bytes (b ∷ []) good = grind (arith, nat_tests)
 is_dummy_name-bytes (b ∷ c ∷ bytes) good = absurd (true≢false (sym good))
 
--- and so is a name in a view
+-- and so does a name in a view
 pub is_view_name-bytes : (name : List ℕ) → is_view_name name ≡ true → are_bytes name ≡ true
 is_view_name-bytes name good = elim (either (is_name name) (is_dummy_name name) good) [
   | inl own ↦ is_name-bytes name own
   | inr dummy ↦ is_dummy_name-bytes name dummy
 ]
 
--- ---- texts that are put together
+-- ---- concatenated texts
 
--- Two texts of bytes are bytes together.
+-- Two concatenated texts of bytes are a text of bytes.
 pub are_bytes-append : (xs ys : List ℕ) → are_bytes xs ≡ true → are_bytes ys ≡ true → are_bytes (xs ++ ys) ≡ true
 are_bytes-append xs ys one two = list_all-append is_byte xs ys ∙ rw (one, two) refl
 
--- Two texts that fit a line fit it together.
+-- Two concatenated texts that fit a line fit a line.
 pub is_within_line-append : (xs ys : List ℕ) → is_within_line xs ≡ true → is_within_line ys ≡ true → is_within_line (xs ++ ys) ≡ true
 is_within_line-append xs ys one two =
     rw (
@@ -94,7 +94,7 @@ are_bytes-attributes (raw ∷ attributes) good =
 
 -- ---- elements, by what is inside them
 
--- where the element is of the right form, its text is bytes
+-- where the element has the right form, its text consists of bytes
 abbrev IsOfBytes : (List ℕ → Bool) → Element → Type 0
 IsOfBytes name e = is_well_formed name e ≡ true → are_bytes (element_text e) ≡ true
 
@@ -119,11 +119,11 @@ element_of_bytes name names e inside good =
     let few = nat_le (length e.attributes) 65535 in
     let raw = list_all is_raw_attribute e.attributes in
     let items = list_all (λ b. b) (map (item_well_formed name) e.items) in
-    let front = first_so (own && few && raw) items form in
-    let named = names e.name (first_so own few (first_so (own && few) raw front)) in
+    let prefix = first_so (own && few && raw) items form in
+    let named = names e.name (first_so own few (first_so (own && few) raw prefix)) in
     let content = inside (second_so (own && few && raw) items form) in
     ap are_bytes (element_text_is e)
-    ∙ are_bytes-append (concat (map (line capital_a) e.attributes)) _ (are_bytes-attributes e.attributes (second_so (own && few) raw front))
+    ∙ are_bytes-append (concat (map (line capital_a) e.attributes)) _ (are_bytes-attributes e.attributes (second_so (own && few) raw prefix))
     (are_bytes-append (line left_parenthesis e.name) _ (are_bytes-line left_parenthesis e.name refl named)
     (are_bytes-append (concat (map item_text e.items)) (line right_parenthesis e.name) content (are_bytes-line right_parenthesis e.name refl named)))
 
@@ -135,16 +135,16 @@ item_of_bytes name (Item-F.Text bytes) = subst (IsItemOfBytes name) (sym (rolls-
 item_of_bytes name (Item-F.Child pair) = subst (IsItemOfBytes name) (sym (rolls-Child pair.0)) (λ good.
     ap are_bytes (item_text-Child pair.0) ∙ pair.1 (sym (item_well_formed-Child name pair.0) ∙ good))
 
--- Where each name is bytes, so is the text of an element of the right form.
+-- Where each name consists of bytes, so does the text of an element of the right form.
 pub element_text-bytes : (name : List ℕ → Bool) → ((n : List ℕ) → name n ≡ true → are_bytes n ≡ true) → (e : Element) → IsOfBytes name e
 element_text-bytes name names = ind-Element (IsItemOfBytes name) (IsOfBytes name)
     (λ x y is. subst (λ z. IsItemOfBytes name (roll-Item z)) is (item_of_bytes name y))
     (λ x y is. subst (λ z. IsOfBytes name (roll-Element z)) is (element_of_bytes name names (roll-Element (map-Element ((item : Item) × IsItemOfBytes name item) ((e : Element) × IsOfBytes name e) Item Element (λ p. p.0) (λ p. p.0) y)) (items_of_bytes name y.items)))
 
--- The text of a document is bytes.
+-- The text of a document consists of bytes.
 pub text-bytes : (d : Doc) → is_document d ≡ true → are_bytes (text d) ≡ true
 text-bytes d good = element_text-bytes is_name is_name-bytes d.root (first_so (is_well_formed is_name d.root) (nat_le (height d.root) 255) good)
 
--- So is that of a view.
+-- So does the text of a view.
 pub view_text-bytes : (d : Doc) → is_view_document d ≡ true → are_bytes (text d) ≡ true
 view_text-bytes d good = element_text-bytes is_view_name is_view_name-bytes d.root (first_so (is_well_formed is_view_name d.root) (nat_le (height d.root) 255) good)

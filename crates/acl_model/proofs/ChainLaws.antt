@@ -23,17 +23,17 @@ leads_among Descendant set nodes = list_any set nodes
 
 -- ---- an axis, over the answers for the ancestors
 
--- whether an axis leads from one of these nodes, whose answers stand in their order
+-- whether an axis leads from one of these nodes, given in order whether the set contains each of them
 abbrev pub any_of : Axis → List Bool → Bool
 any_of Child answers = list_any (λ b. b) (take 1 answers)
 any_of Descendant answers = list_any (λ b. b) answers
 
--- the answer of one more ancestor, joined to that of all above it
+-- the answer for one more ancestor, combined with that for all above it
 abbrev pub joined_answer : Axis → Bool → Bool → Bool
 joined_answer Child near far = near
 joined_answer Descendant near far = near || far
 
--- one more ancestor at the far end can be joined to the one before it
+-- the answer for the last ancestor can be combined with the one before it
 pub any_of-joined : (axis : Axis) (answers : List Bool) (near far : Bool) → any_of axis ((answers ++ near ∷ []) ++ far ∷ []) ≡ any_of axis (answers ++ joined_answer axis near far ∷ [])
 any_of-joined Child [] near far = refl
 any_of-joined Child (b ∷ answers) near far = refl
@@ -42,7 +42,7 @@ any_of-joined Descendant [] false far = refl
 any_of-joined Descendant (true ∷ answers) near far = refl
 any_of-joined Descendant (false ∷ answers) near far = any_of-joined Descendant answers near far
 
--- alone, the far end answers for itself
+-- for a single node the result is its own answer
 pub any_of-one : (axis : Axis) (far : Bool) → any_of axis (far ∷ []) ≡ far
 any_of-one Child true = refl
 any_of-one Child false = refl
@@ -76,7 +76,7 @@ and_false : (b : Bool) → (b && false) ≡ false
 and_false true = refl
 and_false false = refl
 
--- what holds in each child holds where the child is looked for
+-- the answer of a step at a place, from that in each child, where the child may be missing
 in_child_or_none : (st : Step) (set : ChainSet) (place : List ℕ) (up : Chain) (answer : Bool) (test : List ℕ → Bool) (o : Option Element)
     → ((p : List ℕ) → test p ≡ on_chain set (option_and_then (λ c. chain_at c up p) o))
     → ((c : Element) → ((p : List ℕ) → test p ≡ on_chain set (chain_at c up p)) → (answer && is_kept st (below c place)) ≡ on_chain (chain_step st set) (chain_at c up place))
@@ -134,12 +134,12 @@ select-chain d path place = steps_are d path.steps virtual_root is_virtual_root 
 
 -- ---- signs
 
--- the sign that the place found decides, or the sign of all above
+-- the sign that the place decides where one was found, and else the sign from above
 abbrev sign_found : (List ℕ → Bool) → Sign → Option (List ℕ) → Sign
 sign_found denied above None = above
 sign_found denied above (Some place) = if denied place then Deny else Grant
 
--- where the first places are looked through first, what the others decide is what stands above
+-- searching a list and then a second one: the result of the second is the sign from above for the first
 sign_found-append : (chosen denied : List ℕ → Bool) (above : Sign) (f : List ℕ → List ℕ) (places others : List (List ℕ))
     → sign_found denied above (find chosen (map f places ++ others)) ≡ sign_found (λ p. denied (f p)) (sign_found denied above (find chosen others)) (find (λ p. chosen (f p)) places)
 sign_found-append chosen denied above f [] others = refl
@@ -147,14 +147,14 @@ sign_found-append chosen denied above f (p ∷ places) others =
     elim (chosen (f p)) as (λ b. sign_found denied above (if b then Some (f p) else find chosen (map f places ++ others)) ≡ sign_found (λ q. denied (f q)) (sign_found denied above (find chosen others)) (if b then Some p else find (λ q. chosen (f q)) places))
     [ true ↦ refl | false ↦ sign_found-append chosen denied above f places others ]
 
--- a rule selects the chain's first element; a negative rule does
+-- whether a rule, or a rule that denies, selects the first element of the chain
 abbrev chosen_chain : List Rule → ChainSet
 chosen_chain rules chain = list_any (λ r. selects r.path chain) rules
 
 abbrev denied_chain : List Rule → ChainSet
 denied_chain rules chain = list_any (λ r. is_deny r.sign && selects r.path chain) rules
 
--- an element's own place decides, or what stands above it
+-- the sign of an element is decided by its own place or, where no rule selects it, from above
 own_sign : (rules : List Rule) (e : Element) (up : Chain) (chosen denied : List ℕ → Bool) (above : Sign)
     → chosen [] ≡ chosen_chain rules (e ∷ up) → denied [] ≡ denied_chain rules (e ∷ up) → above ≡ chain_sign rules up
     → sign_found denied above (find chosen ([] ∷ [])) ≡ chain_sign rules (e ∷ up)

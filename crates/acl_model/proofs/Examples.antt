@@ -1,4 +1,4 @@
--- What the words of values, numbers and comparisons say of single cases. Each computes.
+-- Examples of the definitions of values, numbers and comparisons. Each is checked by computing it.
 use Rattle.std.proofs.Common.{◌≡◌, ℕ, pos, negsuc, true, false, Some, None, List, [], ◌∷◌, codes, refl}
 use Rattle.acl_model.specs.Numbers.{whole}
 use Rattle.acl_model.specs.NameTests.{passes}

@@ -39,5 +39,5 @@ pub height_of_item-Child : (e : Element) → height_of_item (Child e) ≡ height
 unfolding height height_of_item
 height_of_item-Child e = ap height_of_item (sym (rolls-Child e)) ∙ fold-roll-Item ℕ ℕ _ _ (Item-F.Child e)
 
--- the six of them
+-- these six equations, as a rule set
 pub ruleset form_equations = (well_formed_is, item_well_formed-Text, item_well_formed-Child, height_is, height_of_item-Text, height_of_item-Child)

@@ -1,4 +1,4 @@
--- The form of an element by its parts, of a raw attribute by its words, and what fits a line.
+-- The form of an element by its parts, the form of a raw attribute by its parts, and what fits a line.
 use Rattle.std.proofs.Common.{◌≡◌, ℕ, suc, ◌+◌, ◌-◌, ◌<◌, ◌≤◌, Bool, true, false, not, cond, ◌&&◌, nat_eq, nat_le, Option, None, Some, List, [], ◌∷◌, length, map, get_or, take, drop, refl, ap, sym, ◌∙◌, ⊎_elim, arith}
 use Rattle.std.specs.List.{list_all, before_first, after_first, position_or_len}
 use Rattle.std.specs.Option.{option_map}
@@ -11,7 +11,7 @@ use Rattle.acl_model.specs.Document.{is_type, is_raw_attribute, is_well_formed, 
 use Rattle.acl_model.proofs.FormEquations.{well_formed_is, height_is}
 use Rattle.acl_model.specs.declared.document.Element.{Element}
 
--- ---- words
+-- ---- parts between spaces
 
 abbrev is_space : ℕ → Bool
 is_space b = nat_eq b space
@@ -20,11 +20,11 @@ first_of : Option (List ℕ × List ℕ) → List ℕ → List ℕ
 first_of None bytes = bytes
 first_of (Some p) bytes = p.0
 
-behind_of : Option (List ℕ × List ℕ) → List ℕ
-behind_of None = []
-behind_of (Some p) = p.1
+after_of : Option (List ℕ × List ℕ) → List ℕ
+after_of None = []
+after_of (Some p) = p.1
 
--- one cut gives what stands before and behind the first space
+-- one cut gives what comes before and after the first space
 cut_first : (bytes : List ℕ) → before_first is_space bytes ≡ first_of (cut_at space bytes) bytes
 unfolding first_of
 cut_first [] = refl
@@ -44,50 +44,50 @@ cut_first (b ∷ bytes) = ⊎_elim
     pushed b bytes None = refl
     pushed b bytes (Some p) = refl
 
-cut_behind : (bytes : List ℕ) → after_first is_space bytes ≡ behind_of (cut_at space bytes)
-unfolding behind_of
-cut_behind [] = refl
-cut_behind (b ∷ bytes) = ⊎_elim
+cut_after : (bytes : List ℕ) → after_first is_space bytes ≡ after_of (cut_at space bytes)
+unfolding after_of
+cut_after [] = refl
+cut_after (b ∷ bytes) = ⊎_elim
     (λ at.
     ap (λ t. drop (cond (not t) (1 + position_or_len is_space bytes) 0 + 1) (b ∷ bytes)) at
-    ∙ sym (ap (λ t. behind_of (cond t (Some ([], bytes)) (option_map (λ p. (b ∷ p.0, p.1)) (cut_at space bytes)))) at))
+    ∙ sym (ap (λ t. after_of (cond t (Some ([], bytes)) (option_map (λ p. (b ∷ p.0, p.1)) (cut_at space bytes)))) at))
     (λ other.
     let on : 1 + position_or_len is_space bytes + 1 ≡ suc (position_or_len is_space bytes + 1) = omega arith in
     ap (λ t. drop (cond (not t) (1 + position_or_len is_space bytes) 0 + 1) (b ∷ bytes)) other
     ∙ ap (λ n. drop n (b ∷ bytes)) on
-    ∙ cut_behind bytes ∙ pushed b (cut_at space bytes)
-    ∙ sym (ap (λ t. behind_of (cond t (Some ([], bytes)) (option_map (λ p. (b ∷ p.0, p.1)) (cut_at space bytes)))) other))
+    ∙ cut_after bytes ∙ pushed b (cut_at space bytes)
+    ∙ sym (ap (λ t. after_of (cond t (Some ([], bytes)) (option_map (λ p. (b ∷ p.0, p.1)) (cut_at space bytes)))) other))
     (cases_Bool (is_space b))
   where
-    pushed : (b : ℕ) (o : Option (List ℕ × List ℕ)) → behind_of o ≡ behind_of (option_map (λ p. (b ∷ p.0, p.1)) o)
+    pushed : (b : ℕ) (o : Option (List ℕ × List ℕ)) → after_of o ≡ after_of (option_map (λ p. (b ∷ p.0, p.1)) o)
     pushed b None = refl
     pushed b (Some p) = refl
 
--- the first word, where there is a space and where there is none
-pub before_first-cut : (bytes word behind : List ℕ) → cut_at space bytes ≡ Some (word, behind) → before_first is_space bytes ≡ word
+-- the bytes before the first space, where there is a space and where there is none
+pub before_first-cut : (bytes word after : List ℕ) → cut_at space bytes ≡ Some (word, after) → before_first is_space bytes ≡ word
 unfolding first_of
-before_first-cut bytes word behind cut = cut_first bytes ∙ ap (λ o. first_of o bytes) cut
+before_first-cut bytes word after cut = cut_first bytes ∙ ap (λ o. first_of o bytes) cut
 
 pub before_first-whole : (bytes : List ℕ) → cut_at space bytes ≡ None → before_first is_space bytes ≡ bytes
 unfolding first_of
 before_first-whole bytes cut = cut_first bytes ∙ ap (λ o. first_of o bytes) cut
 
-pub after_first-cut : (bytes word behind : List ℕ) → cut_at space bytes ≡ Some (word, behind) → after_first is_space bytes ≡ behind
-unfolding behind_of
-after_first-cut bytes word behind cut = cut_behind bytes ∙ ap behind_of cut
+pub after_first-cut : (bytes word after : List ℕ) → cut_at space bytes ≡ Some (word, after) → after_first is_space bytes ≡ after
+unfolding after_of
+after_first-cut bytes word after cut = cut_after bytes ∙ ap after_of cut
 
--- a raw attribute by its words
-pub raw_attribute-cut : (raw name behind : List ℕ) → cut_at space raw ≡ Some (name, behind)
-    → is_raw_attribute raw ≡ (is_name name && is_type (before_first is_space behind) && is_within_line raw)
-raw_attribute-cut raw name behind cut =
-    ap (λ l. is_name l && is_type (before_first is_space (after_first is_space raw)) && is_within_line raw) (before_first-cut raw name behind cut)
-    ∙ ap (λ l. is_name name && is_type (before_first is_space l) && is_within_line raw) (after_first-cut raw name behind cut)
+-- a raw attribute by its parts
+pub raw_attribute-cut : (raw name after : List ℕ) → cut_at space raw ≡ Some (name, after)
+    → is_raw_attribute raw ≡ (is_name name && is_type (before_first is_space after) && is_within_line raw)
+raw_attribute-cut raw name after cut =
+    ap (λ l. is_name l && is_type (before_first is_space (after_first is_space raw)) && is_within_line raw) (before_first-cut raw name after cut)
+    ∙ ap (λ l. is_name name && is_type (before_first is_space l) && is_within_line raw) (after_first-cut raw name after cut)
 
 -- without a space there is no type
 pub raw_attribute-none : (raw : List ℕ) → cut_at space raw ≡ None → is_raw_attribute raw ≡ false
-unfolding behind_of
+unfolding after_of
 raw_attribute-none raw cut =
-    ap (λ l. is_name (before_first is_space raw) && is_type (before_first is_space l) && is_within_line raw) (cut_behind raw ∙ ap behind_of cut)
+    ap (λ l. is_name (before_first is_space raw) && is_type (before_first is_space l) && is_within_line raw) (cut_after raw ∙ ap after_of cut)
     ∙ never (is_name (before_first is_space raw)) (is_within_line raw)
   where
     never : (a b : Bool) → (a && false && b) ≡ false
@@ -109,7 +109,7 @@ within_line-bytes bytes fit = sym (ap (λ b. b && lacks line_feed bytes) (are_by
 
 -- ---- elements
 
--- no element has no levels
+-- each element has at least one level
 pub element-no_levels : (name : List ℕ → Bool) (e : Element) (levels : ℕ) → levels ≡ 0 → (is_well_formed name e && nat_le (height e) levels) ≡ false
 element-no_levels name e levels none =
     let high = height_is e in

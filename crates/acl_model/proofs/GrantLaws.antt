@@ -1,4 +1,4 @@
--- That a place is granted, by the fold of an element and by the places inside it.
+-- `has_grant`, which is a fold over an element, is true exactly where some place in the element is granted.
 use Rattle.std.proofs.Common.{◌≡◌, ℕ, ◌+◌, suc, zero, Bool, true, false, ◌||◌, Some, None, List, [], ◌∷◌, map, refl, ap, sym, ◌∙◌, subst, add-one, zero-add, inl, inr, ◌⊎◌, arith}
 use Rattle.std.proofs.lemmas.Bool.{true≢false}
 use Rattle.std.proofs.lemmas.Option.{option_and_then_some}
@@ -63,7 +63,7 @@ grant_in_child (item ∷ items) n signs k c =
     ∙ grant_in_first e c items n signs k (λ m. grant_in_child items m signs (k + 1) c) (ap (λ es. slice_get es n) (sym (children-Child e items)) ∙ found) granted)
     item
 
--- An element with a granted place inside it, or that is granted itself, has a grant.
+-- `has_grant` is true of an element that is granted, or has a granted place inside it.
 pub grant_shows : (place : List ℕ) (e x : Element) (signs : Signs) → below e place ≡ Some x → signs place ≡ Grant → (filter_of e).has_grant signs ≡ true
 grant_shows [] e x signs found granted = has_grant_is e signs ∙ ap (λ s. is_grant s || grant_within (map filter_of_item e.items) signs 1) granted
 grant_shows (zero ∷ place) e x signs found granted = absurd (none_is_not_some x found)
@@ -74,17 +74,17 @@ grant_shows (suc n ∷ place) e x signs found granted =
     (grant_in_child e.items n signs 1 c is
     (ap (λ k. (filter_of c).has_grant (in_child signs k)) (add-one n) ∙ grant_shows place c x (in_child signs (suc n)) there granted)))
 
--- ---- where an element has a grant, a place is granted
+-- ---- where `has_grant` is true, a place is granted
 
 -- a place inside e, or e itself, is granted
 abbrev pub HasGrantedPlace : Element → Signs → Type 0
 HasGrantedPlace e signs = (place : List ℕ) × (x : Element) × (below e place ≡ Some x) × (signs place ≡ Grant)
 
-abbrev Tells : Element → Type 0
-Tells e = (signs : Signs) → (filter_of e).has_grant signs ≡ true → HasGrantedPlace e signs
+abbrev GrantIsFound : Element → Type 0
+GrantIsFound e = (signs : Signs) → (filter_of e).has_grant signs ≡ true → HasGrantedPlace e signs
 
-abbrev TellsItem : Item → Type 0
-TellsItem item = (e : Element) → element_of item ≡ Some e → Tells e
+abbrev ItemGrantIsFound : Item → Type 0
+ItemGrantIsFound item = (e : Element) → element_of item ≡ Some e → GrantIsFound e
 
 pub either : (a b : Bool) → (a || b) ≡ true → (a ≡ true) ⊎ (b ≡ true)
 either true b so = inl refl
@@ -94,15 +94,15 @@ granted_sign : (s : Sign) → is_grant s ≡ true → s ≡ Grant
 granted_sign Grant so = refl
 granted_sign Deny so = absurd (true≢false (sym so))
 
--- a granted place in one of the items, whose element child is the n-th behind the first ones
+-- a granted place in one of the items, whose element child is the n-th after the first ones
 abbrev FoundWithin : List Item → Signs → ℕ → Type 0
 FoundWithin items signs k = (n : ℕ) × (c : Element) × (slice_get (children items) n ≡ Some c) × HasGrantedPlace c (in_child signs (n + k))
 
-within_found : (pairs : List ((item : Item) × TellsItem item)) (signs : Signs) (k : ℕ) → grant_within (map filter_of_item (map (λ p. p.0) pairs)) signs k ≡ true → FoundWithin (map (λ p. p.0) pairs) signs k
+within_found : (pairs : List ((item : Item) × ItemGrantIsFound item)) (signs : Signs) (k : ℕ) → grant_within (map filter_of_item (map (λ p. p.0) pairs)) signs k ≡ true → FoundWithin (map (λ p. p.0) pairs) signs k
 within_found [] signs k so = absurd (true≢false (sym so))
 within_found (pair ∷ pairs) signs k so =
     let items : List Item = map (λ p. p.0) pairs in
-    item_cases (λ x. TellsItem x → grant_within (filter_of_item x ∷ map filter_of_item items) signs k ≡ true → FoundWithin (x ∷ items) signs k)
+    item_cases (λ x. ItemGrantIsFound x → grant_within (filter_of_item x ∷ map filter_of_item items) signs k ≡ true → FoundWithin (x ∷ items) signs k)
     (λ bytes tells here.
     let found = within_found pairs signs k (ap (λ s. grant_within (s ∷ map filter_of_item items) signs k) (sym (filter_of_item-Text bytes)) ∙ here) in
     (found.0, found.1, ap (λ es. slice_get es found.0) (children-Text bytes items) ∙ found.2, found.3))
@@ -115,8 +115,8 @@ within_found (pair ∷ pairs) signs k so =
     ])
     pair.0 pair.1 so
 
-element_tells : (e : Element) → ((signs : Signs) (k : ℕ) → grant_within (map filter_of_item e.items) signs k ≡ true → FoundWithin e.items signs k) → Tells e
-element_tells e inside signs so = elim (either (is_grant (signs [])) (grant_within (map filter_of_item e.items) signs 1) (sym (has_grant_is e signs) ∙ so)) [
+element_grant_found : (e : Element) → ((signs : Signs) (k : ℕ) → grant_within (map filter_of_item e.items) signs k ≡ true → FoundWithin e.items signs k) → GrantIsFound e
+element_grant_found e inside signs so = elim (either (is_grant (signs [])) (grant_within (map filter_of_item e.items) signs 1) (sym (has_grant_is e signs) ∙ so)) [
   | inl own ↦ ([], e, refl, granted_sign (signs []) own)
   | inr within ↦
       let found = inside signs 1 within in
@@ -124,13 +124,13 @@ element_tells e inside signs so = elim (either (is_grant (signs [])) (grant_with
       (suc found.0 ∷ place.0, place.1, ap (option_and_then (λ c. below c place.0)) found.2 ∙ place.2, place.3)
 ]
 
-item_tells : (y : Item-F ((item : Item) × TellsItem item) ((e : Element) × Tells e))
-    → TellsItem (roll-Item (map-Item ((item : Item) × TellsItem item) ((e : Element) × Tells e) Item Element (λ p. p.0) (λ p. p.0) y))
-item_tells (Item-F.Text bytes) e told = absurd (none_is_not_some e (sym (ap element_in (out-roll-Item (Item-F.Text bytes))) ∙ told))
-item_tells (Item-F.Child pair) e told = subst Tells (same_within pair.0 e (sym (ap element_in (out-roll-Item (Item-F.Child pair.0))) ∙ told)) pair.1
+item_grant_found : (y : Item-F ((item : Item) × ItemGrantIsFound item) ((e : Element) × GrantIsFound e))
+    → ItemGrantIsFound (roll-Item (map-Item ((item : Item) × ItemGrantIsFound item) ((e : Element) × GrantIsFound e) Item Element (λ p. p.0) (λ p. p.0) y))
+item_grant_found (Item-F.Text bytes) e told = absurd (none_is_not_some e (sym (ap element_in (out-roll-Item (Item-F.Text bytes))) ∙ told))
+item_grant_found (Item-F.Child pair) e told = subst GrantIsFound (same_within pair.0 e (sym (ap element_in (out-roll-Item (Item-F.Child pair.0))) ∙ told)) pair.1
 
--- An element that has a grant has a granted place inside it, or is granted itself.
-pub grant_found : (e : Element) → Tells e
-grant_found = ind-Element TellsItem Tells
-    (λ x y is. subst (λ z. TellsItem (roll-Item z)) is (item_tells y))
-    (λ x y is. subst (λ z. Tells (roll-Element z)) is (element_tells (roll-Element (map-Element ((item : Item) × TellsItem item) ((e : Element) × Tells e) Item Element (λ p. p.0) (λ p. p.0) y)) (within_found y.items)))
+-- An element of which `has_grant` is true is granted, or has a granted place inside it.
+pub grant_found : (e : Element) → GrantIsFound e
+grant_found = ind-Element ItemGrantIsFound GrantIsFound
+    (λ x y is. subst (λ z. ItemGrantIsFound (roll-Item z)) is (item_grant_found y))
+    (λ x y is. subst (λ z. GrantIsFound (roll-Element z)) is (element_grant_found (roll-Element (map-Element ((item : Item) × ItemGrantIsFound item) ((e : Element) × GrantIsFound e) Item Element (λ p. p.0) (λ p. p.0) y)) (within_found y.items)))

@@ -1,4 +1,4 @@
--- How cutting once gives the first line; that written lines are read again; and what lines hold.
+-- One cut gives the first line; lines that were written are read as the same lines; and what lines contain.
 use Rattle.std.proofs.Common.{◌≡◌, ℕ, ◌+◌, ◌-◌, ◌<◌, Bool, true, false, not, ◌==◌, nat_eq, Option, Some, None, List, [], ◌∷◌, ◌++◌, map, length, get_or, take, drop, if◌then◌else◌, refl, ap, sym, ◌∙◌, ◌⊎◌, inl, inr, arith, add-one, append_assoc, length-append, suc, zero}
 use Rattle.std.proofs.lemmas.Bool.{false≢true, eq-eqb, ne_eqb}
 use Rattle.std.proofs.lemmas.List.Folds.{list_all-append}
@@ -30,21 +30,21 @@ cut_at-none c (b ∷ bytes) none =
     let rest : cut_at c bytes ≡ None = cut_at-none c bytes (λ k h. none (suc k) (omega arith)) in
     rw (other, rest) refl
 
--- The same, what stands behind it taken by its length.
+-- The same, with what follows it given by its length.
 pub cut_at-found_rest : (c : ℕ) (bytes : List ℕ) (i : ℕ) → ((k : ℕ) → k < i → get_or bytes k 0 ≡ c → ⊥) → i < length bytes → get_or bytes i 0 ≡ c
     → cut_at c bytes ≡ Some (take i bytes, take (length bytes - (i + 1)) (drop (i + 1) bytes))
 cut_at-found_rest c bytes i none inside here = rw (take_rest bytes (i + 1)) (cut_at-found c bytes i none inside here)
 
--- how one cut is found
+-- the result of one cut
 pub ruleset cuts = (cut_at-found_rest, cut_at-none)
 
 not_true : (b : Bool) → not b ≡ true → b ≡ false
 not_true true h = sym h
 not_true false h = refl
 
--- ---- bytes that stand nowhere
+-- ---- bytes that a text doesn't contain
 
--- A byte that fails a test is no byte that passes it.
+-- A byte that fails a test differs from each byte that passes it.
 passes_other : (p : ℕ → Bool) (c : ℕ) → p c ≡ false → (b : ℕ) → p b ≡ true → not (nat_eq b c) ≡ true
 passes_other p c fails b passes = ap not (ne_eqb b c (λ (e : b ≡ c). false≢true (sym fails ∙ ap p (sym e) ∙ passes)))
 
@@ -54,11 +54,11 @@ lacks-list_all p c fails [] all = refl
 lacks-list_all p c fails (b ∷ bytes) all =
     rw (passes_other p c fails b (first_so (p b) (list_all p bytes) all), lacks-list_all p c fails bytes (second_so (p b) (list_all p bytes) all)) refl
 
--- Two texts that lack c lack it together.
+-- Two concatenated texts that lack c are a text that lacks c.
 pub lacks-append : (c : ℕ) (xs ys : List ℕ) → lacks c xs ≡ true → lacks c ys ≡ true → lacks c (xs ++ ys) ≡ true
 lacks-append c xs ys one two = list_all-append (λ (b : ℕ). not (nat_eq b c)) xs ys ∙ rw (one, two) refl
 
--- A text that lacks c is what stands before the c behind it.
+-- Where a text lacks c and c follows it, the text is what comes before the first c.
 pub cut_at-append : (c : ℕ) (bytes rest : List ℕ) → lacks c bytes ≡ true → cut_at c (bytes ++ (c ∷ rest)) ≡ Some (bytes, rest)
 cut_at-append c [] rest without = rw (eq-eqb c c refl) refl
 cut_at-append c (b ∷ bytes) rest without =
@@ -106,24 +106,24 @@ pub lines-whole : (bytes : List ℕ) → (length bytes == 0) ≡ false → cut_a
 lines-whole [] some none = absurd (grind arith)
 lines-whole (b ∷ bytes) some none = lines-cut_at (b ∷ bytes) ∙ ap (lines_by (b ∷ bytes)) none
 
--- the line before the first line feed, and the lines behind it
-pub lines-first : (bytes line behind : List ℕ) → cut_at line_feed bytes ≡ Some (line, behind) → lines bytes ≡ line ∷ lines behind
-lines-first [] line behind cut = lines-cut_at [] ∙ ap (lines_by []) cut
-lines-first (b ∷ bytes) line behind cut = lines-cut_at (b ∷ bytes) ∙ ap (lines_by (b ∷ bytes)) cut
+-- the line before the first line feed, and the lines after it
+pub lines-first : (bytes line after : List ℕ) → cut_at line_feed bytes ≡ Some (line, after) → lines bytes ≡ line ∷ lines after
+lines-first [] line after cut = lines-cut_at [] ∙ ap (lines_by []) cut
+lines-first (b ∷ bytes) line after cut = lines-cut_at (b ∷ bytes) ∙ ap (lines_by (b ∷ bytes)) cut
 
 pub ruleset first_lines = (lines-nothing, lines-whole, lines-first)
 
 -- ---- written lines are read as these lines
 
--- a line without a line feed, with what follows its line feed
+-- a text without a line feed that is followed by a line feed is the first line
 pub lines-as_line : (line rest : List ℕ) → lacks line_feed line ≡ true → lines (line ++ (line_feed ∷ rest)) ≡ line ∷ lines rest
 lines-as_line line rest without = lines-first (line ++ (line_feed ∷ rest)) line rest (cut_at-append line_feed line rest without)
 
--- a last line without its line feed
+-- a text without a line feed that isn't empty is one line
 pub lines-last : (b : ℕ) (bytes : List ℕ) → lacks line_feed (b ∷ bytes) ≡ true → lines (b ∷ bytes) ≡ (b ∷ bytes) ∷ []
 lines-last b bytes without = lines-cut_at (b ∷ bytes) ∙ ap (lines_by (b ∷ bytes)) (cut_at-lacking line_feed (b ∷ bytes) without)
 
--- Texts without line feeds, written as lines before other bytes, are the first lines.
+-- Texts without line feeds, each written as a line and followed by other bytes, are the first lines.
 pub lines-concat : (texts : List (List ℕ)) (rest : List ℕ) → list_all (lacks line_feed) texts ≡ true → lines (concat (map as_line texts) ++ rest) ≡ texts ++ lines rest
 lines-concat [] rest without = refl
 lines-concat (text ∷ texts) rest without =
@@ -146,7 +146,7 @@ pub lines-written_last : (texts : List (List ℕ)) (b : ℕ) (last : List ℕ) �
     → lines (concat (map as_line texts) ++ (b ∷ last)) ≡ texts ++ (b ∷ last) ∷ []
 lines-written_last texts b last without own = lines-concat texts (b ∷ last) without ∙ ap (λ (ls : List (List ℕ)). texts ++ ls) (lines-last b last own)
 
--- ---- lines, by std's cut
+-- ---- lines, by the standard library's split
 
 -- all parts, but for a last one that is empty
 abbrev pub without_empty_end : List (List ℕ) → List (List ℕ)
@@ -166,7 +166,7 @@ onto_first-some : (b : ℕ) (parts : List (List ℕ)) → without_empty_end ([] 
 onto_first-some b [] = refl
 onto_first-some b (part ∷ parts) = refl
 
--- a part before others stays
+-- a part that others follow stays
 slice_split-some : (bytes : List ℕ) → without_empty_end ([] ∷ slice_split is_line_feed bytes) ≡ [] ∷ without_empty_end (slice_split is_line_feed bytes)
 slice_split-some [] = refl
 slice_split-some (b ∷ bytes) =
@@ -182,13 +182,13 @@ lines-slice_split (b ∷ bytes) =
       | false ↦ ap (onto_first b) (lines-slice_split bytes) ∙ sym (without_empty_end-onto_first b (slice_split is_line_feed bytes))
     ]
 
--- ---- what lines hold
+-- ---- what lines contain
 
 lacks-onto_first : (b : ℕ) (ls : List (List ℕ)) → is_line_feed b ≡ false → list_all (lacks line_feed) ls ≡ true → list_all (lacks line_feed) (onto_first b ls) ≡ true
 lacks-onto_first b [] other without = rw other refl
 lacks-onto_first b (l ∷ ls) other without = rw other without
 
--- No line holds a line feed.
+-- No line contains a line feed.
 pub lines-lack : (bytes : List ℕ) → list_all (lacks line_feed) (lines bytes) ≡ true
 lines-lack [] = refl
 lines-lack (b ∷ bytes) = elim (is_line_feed b) as (λ (v : Bool). is_line_feed b ≡ v → list_all (lacks line_feed) (if v then [] ∷ lines bytes else onto_first b (lines bytes)) ≡ true) [
@@ -200,7 +200,7 @@ bytes-onto_first : (b : ℕ) (ls : List (List ℕ)) → is_byte b ≡ true → l
 bytes-onto_first b [] own others = rw own refl
 bytes-onto_first b (l ∷ ls) own others = rw own others
 
--- The lines of bytes are bytes.
+-- The lines of a text of bytes consist of bytes.
 pub lines-are_bytes : (bytes : List ℕ) → are_bytes bytes ≡ true → list_all are_bytes (lines bytes) ≡ true
 lines-are_bytes [] all = refl
 lines-are_bytes (b ∷ bytes) all =
@@ -208,7 +208,7 @@ lines-are_bytes (b ∷ bytes) all =
     elim (is_line_feed b) as (λ (v : Bool). list_all are_bytes (if v then [] ∷ lines bytes else onto_first b (lines bytes)) ≡ true)
     [ true ↦ later | false ↦ bytes-onto_first b (lines bytes) (first_so (is_byte b) (are_bytes bytes) all) later ]
 
--- these lines, each with a line feed, are the bytes, or the bytes with a line feed behind
+-- these lines, each with a line feed, are the bytes, or the bytes followed by a line feed
 abbrev pub AreLinesOf : List (List ℕ) → List ℕ → Type 0
 AreLinesOf ls bytes = (concat (map as_line ls) ≡ bytes) ⊎ (concat (map as_line ls) ≡ bytes ++ line_feed ∷ [])
 
@@ -228,7 +228,7 @@ lines_with_byte b bytes (l ∷ ls) h = elim h [
   | inr e ↦ inr (ap (λ t. b ∷ t) e)
 ]
 
--- The lines of a text, written as lines, are the text, or the text with a line feed behind.
+-- The lines of a text, written as lines, are the text, or the text followed by a line feed.
 pub lines-again : (bytes : List ℕ) → AreLinesOf (lines bytes) bytes
 lines-again [] = inl refl
 lines-again (b ∷ bytes) = elim (is_line_feed b) as (λ (v : Bool). is_line_feed b ≡ v → AreLinesOf (if v then [] ∷ lines bytes else onto_first b (lines bytes)) (b ∷ bytes)) [

@@ -1,4 +1,5 @@
--- An element whose names pass one test is of the right form under each test that they pass too: so a document is a view document.
+-- An element that has the right form under one name test has it under each weaker one. So a document is a view
+-- document.
 use Rattle.std.proofs.Common.{◌≡◌, ℕ, Bool, true, ◌&&◌, ◌||◌, nat_le, List, [], ◌∷◌, map, length, refl, ap, sym, ◌∙◌, subst}
 use Rattle.std.specs.Cmp.{first_so, second_so}
 use Rattle.std.specs.List.{list_all}
@@ -14,11 +15,11 @@ use Rattle.acl_model.specs.declared.document.Item.TheFolds.{ind-Element, map-Ite
 
 -- each name that passes the first test passes the second
 module _ (one other : List ℕ → Bool) (passes : (name : List ℕ) → one name ≡ true → other name ≡ true) where
-  -- an element of the right form under the first test is so under the second
+  -- an element that has the right form under the first test has it under the second
   abbrev Passes : Element → Type 0
   Passes e = is_well_formed one e ≡ true → is_well_formed other e ≡ true
 
-  -- the same of an item
+  -- the same for an item
   abbrev ItemPasses : Item → Type 0
   ItemPasses item = item_well_formed one item ≡ true → item_well_formed other item ≡ true
 
@@ -35,13 +36,13 @@ module _ (one other : List ℕ → Bool) (passes : (name : List ℕ) → one nam
       let few = nat_le (length e.attributes) 65535 in
       let raw = list_all is_raw_attribute e.attributes in
       let items = list_all (λ b. b) (map (item_well_formed one) e.items) in
-      let front = first_so (one e.name && few && raw) items form in
-      let named = first_so (one e.name && few) raw front in
+      let prefix = first_so (one e.name && few && raw) items form in
+      let named = first_so (one e.name && few) raw prefix in
       rw (
         well_formed_is other e,
         passes e.name (first_so (one e.name) few named),
         second_so (one e.name) few named,
-        second_so (one e.name && few) raw front,
+        second_so (one e.name && few) raw prefix,
         inside (second_so (one e.name && few && raw) items form),
       ) refl
 
@@ -50,13 +51,13 @@ module _ (one other : List ℕ → Bool) (passes : (name : List ℕ) → one nam
   item_passes (Item-F.Text bytes) = subst ItemPasses (sym (rolls-Text bytes)) (λ good. item_well_formed-Text other bytes ∙ sym (item_well_formed-Text one bytes) ∙ good)
   item_passes (Item-F.Child pair) = subst ItemPasses (sym (rolls-Child pair.0)) (λ good. item_well_formed-Child other pair.0 ∙ pair.1 (sym (item_well_formed-Child one pair.0) ∙ good))
 
-  -- An element of the right form under one test is so under each that lets as many names pass.
+  -- An element that has the right form under one test has it under each test that at least the same names pass.
   pub well_formed-passes : (e : Element) → Passes e
   well_formed-passes = ind-Element ItemPasses Passes
       (λ x y is. subst (λ z. ItemPasses (roll-Item z)) is (item_passes y))
       (λ x y is. subst (λ z. Passes (roll-Element z)) is (element_passes (roll-Element (map-Element ((item : Item) × ItemPasses item) ((e : Element) × Passes e) Item Element (λ p. p.0) (λ p. p.0) y)) (items_pass y.items)))
 
--- A document is a view document, with no dummy in it.
+-- A document is a view document.
 pub document_form : (d : Doc) → is_document d ≡ true → is_view_document d ≡ true
 document_form d good =
     rw (

@@ -1,4 +1,4 @@
--- The places of a document are exactly those where an element stands, each once.
+-- The places of a document are exactly those of its elements, each once.
 use Rattle.std.proofs.Common.{◌≡◌, ℕ, suc, zero, ◌+◌, ◌<◌, Bool, true, false, ◌&&◌, nat_eq, Option, Some, None, is_some, List, [], ◌∷◌, ◌++◌, map, length, cond, refl, ap, sym, ◌∙◌, add-one, zero-add, arith, length-append, if◌then◌else◌}
 use Rattle.std.proofs.lemmas.Bool.Decides.{nat_tests}
 use Rattle.std.proofs.lemmas.List.Elements.{filter-append}
@@ -30,7 +30,7 @@ places_of_item-Child e = ap places_of_item (sym (rolls-Child e)) ∙ fold-roll-I
 
 pub ruleset place_equations = (places_below_is, places_of_item-Text, places_of_item-Child)
 
--- ---- how often a place stands among places
+-- ---- how often a list of places contains a place
 
 times-append : (place : List ℕ) (xs ys : List (List ℕ)) → times place (xs ++ ys) ≡ times place xs + times place ys
 times-append place xs ys = ap length (filter-append (λ p. pointwise nat_eq p place) xs ys) ∙ length-append (filter (λ p. pointwise nat_eq p place) xs) (filter (λ p. pointwise nat_eq p place) ys)
@@ -44,7 +44,7 @@ other_number j k less = grind (arith, nat_tests)
 other_number_above : (j k : ℕ) → k < j → nat_eq j k ≡ false
 other_number_above j k less = grind (arith, nat_tests)
 
--- behind the same number
+-- where all begin with the same number
 times-same : (k : ℕ) (place : List ℕ) (ps : List (List ℕ)) → times (k ∷ place) (map (λ p. k ∷ p) ps) ≡ times place ps
 times-same k place [] = refl
 times-same k place (p ∷ ps) =
@@ -52,14 +52,14 @@ times-same k place (p ∷ ps) =
     ∙ elim (pointwise nat_eq p place) as (λ b. length (cond b ((k ∷ p) ∷ filter (λ q. pointwise nat_eq q (k ∷ place)) (map (λ p. k ∷ p) ps)) (filter (λ q. pointwise nat_eq q (k ∷ place)) (map (λ p. k ∷ p) ps))) ≡ length (cond b (p ∷ filter (λ q. pointwise nat_eq q place) ps) (filter (λ q. pointwise nat_eq q place) ps)))
     [ true ↦ ap suc (times-same k place ps) | false ↦ times-same k place ps ]
 
--- behind another number
+-- where the others begin with another number
 times-other : (j k : ℕ) (place : List ℕ) (ps : List (List ℕ)) → nat_eq j k ≡ false → times (k ∷ place) (map (λ p. j ∷ p) ps) ≡ 0
 times-other j k place [] other = refl
 times-other j k place (p ∷ ps) other =
     ap (λ b. length (cond (b && pointwise nat_eq p place) ((j ∷ p) ∷ filter (λ q. pointwise nat_eq q (k ∷ place)) (map (λ p. j ∷ p) ps)) (filter (λ q. pointwise nat_eq q (k ∷ place)) (map (λ p. j ∷ p) ps)))) other
     ∙ times-other j k place ps other
 
--- the root's place stands before all that are numbered
+-- the root's place comes before all numbered places
 times-root : (j : ℕ) (ps : List (List ℕ)) → times [] (map (λ p. j ∷ p) ps) ≡ 0
 times-root j [] = refl
 times-root j (p ∷ ps) = times-root j ps
@@ -70,7 +70,7 @@ root_not_numbered (None ∷ items) j = root_not_numbered items j
 root_not_numbered (Some inside ∷ items) j =
     times-append [] (map (λ p. j ∷ p) inside) (numbered items (j + 1)) ∙ ap (λ n. n + times [] (numbered items (j + 1))) (times-root j inside) ∙ ap (λ n. 0 + n) (root_not_numbered items (j + 1))
 
--- no item has a smaller number than the first
+-- no place in the items begins with a smaller number than the first
 lower_not_numbered : (items : List (Option (List (List ℕ)))) (j k : ℕ) (place : List ℕ) → k < j → times (k ∷ place) (numbered items j) ≡ 0
 lower_not_numbered [] j k place less = refl
 lower_not_numbered (None ∷ items) j k place less = lower_not_numbered items j k place less
@@ -81,7 +81,7 @@ lower_not_numbered (Some inside ∷ items) j k place less =
 
 -- ---- by children
 
--- how often the place stands in the child found, if there is one
+-- how often the place is among those of the child, if there is one
 abbrev times_in : List ℕ → Option Element → ℕ
 times_in place o = option_map_or (λ c. times place (places_below c)) o 0
 
@@ -119,7 +119,7 @@ times_numbered (item ∷ items) n j place =
 
 -- ---- all places
 
--- once where there is an element, and else never
+-- once where there is an element, and never where there is none
 abbrev pub once_where : Bool → ℕ
 once_where there = if there then 1 else 0
 
@@ -136,6 +136,6 @@ times_below (suc n ∷ place) e =
     ∙ times_numbered e.items n 1 place
     ∙ times_child place (slice_get (children e.items) n) (times_below place)
 
--- A place stands once among the places of a document where an element stands there, and else never.
+-- The places of a document contain a place once where there is an element at it, and else never.
 pub times_in_places : (d : Doc) (place : List ℕ) → times place (places d) ≡ once_where (is_some (at d place))
 times_in_places d place = times_below place d.root

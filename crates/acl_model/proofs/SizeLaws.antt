@@ -1,17 +1,17 @@
 -- How many bytes heads and segments have.
 use Rattle.std.proofs.Common.{◌≡◌, ℕ, zero, suc, ◌+◌, ◌-◌, ◌/◌, ◌%◌, Bool, false, List, [], ◌∷◌, ◌++◌, length, length-append, append_assoc, replicate, drop, map, refl, ap, sym, ◌∙◌, arith}
 use Rattle.std.proofs.lemmas.List.{length-map, length-replicate}
-use Rattle.acl_model.specs.Bits.{bits_of, filled_bits, first_bytes, bytes_of}
+use Rattle.acl_model.specs.StreamBits.{bits_of, filled_bits, first_bytes, bytes_of}
 use Rattle.acl_model.specs.Width.{binary_length}
 use Rattle.acl_model.specs.Stream.{Segment, segment_bytes, bytes_of_segments, size, has_member, rank, set_bits, head_bits}
 
--- as many bits as were asked for
+-- `bits_of` has as many bits as were asked for
 pub length-bits_of : (n value : ℕ) → length (bits_of n value) ≡ n
 unfolding bits_of
 length-bits_of zero value = refl
 length-bits_of (suc n) value = ap suc (length-bits_of n value)
 
--- as many bytes as were asked for
+-- `first_bytes` has as many bytes as were asked for
 length-first_bytes : (n : ℕ) (bits : List Bool) → length (first_bytes n bits) ≡ n
 unfolding first_bytes
 length-first_bytes zero bits = refl
@@ -23,14 +23,14 @@ length-filled_bits bits = length-append bits (replicate ((8 - length bits % 8) %
 whole_bytes : (n : ℕ) → (n + (8 - n % 8) % 8) / 8 ≡ (n + 7) / 8
 whole_bytes n = omega arith
 
--- the bytes of bits: eight bits a byte, rounded up
+-- the number of bytes of bits: eight bits to a byte, rounded up
 pub length-bytes_of : (bits : List Bool) → length (bytes_of bits) ≡ (length bits + 7) / 8
 unfolding bytes_of
 length-bytes_of bits =
     length-first_bytes (length (filled_bits bits) / 8) (filled_bits bits)
     ∙ ap (λ n. n / 8) (length-filled_bits bits) ∙ whole_bytes (length bits)
 
--- the bits of a head
+-- the number of bits of a head
 pub length-head_bits : (members : List ℕ) (w tag : ℕ) (below : List ℕ) (long : ℕ)
     → length (head_bits members w tag below long) ≡ 1 + (binary_length (length members - 1) + (length (set_bits members below) + w))
 unfolding head_bits
@@ -43,16 +43,16 @@ length-head_bits members w tag below long =
     let rest : length (set_bits members below ++ bits_of w long) ≡ length (set_bits members below) + length (bits_of w long) = length-append (set_bits members below) (bits_of w long) in
     omega arith
 
--- the set of an element without element children is one bit, and of any other one bit more than there are members
+-- where an element has element children, its tag set takes one bit more than the parent's set has members
 pub length-set_bits : (members : List ℕ) (n : ℕ) (below : List ℕ) → length (set_bits members (n ∷ below)) ≡ 1 + length members
 length-set_bits members n below = let long : length (map (has_member (n ∷ below)) members) ≡ length members = length-map members (has_member (n ∷ below)) in omega arith
 
--- the bytes of segments that stand behind others
+-- the bytes of segments that follow others
 pub bytes_of_segments-append : (xs ys : List Segment) → bytes_of_segments (xs ++ ys) ≡ bytes_of_segments xs ++ bytes_of_segments ys
 bytes_of_segments-append [] ys = refl
 bytes_of_segments-append (x ∷ xs) ys = ap (λ l. segment_bytes x ++ l) (bytes_of_segments-append xs ys) ∙ sym (append_assoc (segment_bytes x) (bytes_of_segments xs) (bytes_of_segments ys))
 
--- their number
+-- the number of these bytes
 pub size-append : (xs ys : List Segment) → size (xs ++ ys) ≡ size xs + size ys
 unfolding size
 size-append xs ys = ap length (bytes_of_segments-append xs ys) ∙ length-append (bytes_of_segments xs) (bytes_of_segments ys)

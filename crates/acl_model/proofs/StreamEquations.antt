@@ -1,4 +1,4 @@
--- An element under a dictionary, and each kind of item, as equations. A fold doesn't compute by itself, so proofs cite
+-- The encoding of an element, and of each kind of item, as equations. A fold doesn't compute by itself, so proofs cite
 -- these.
 use Rattle.std.proofs.Common.{◌≡◌, ℕ, List, map, ap, sym, ◌∙◌}
 use Rattle.acl_model.specs.Stream.{Part, Branch, text_part, element_part, item_part, element_branch, branch_of, part_of}

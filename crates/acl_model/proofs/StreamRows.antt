@@ -1,11 +1,11 @@
 -- The streams of three small documents, computed from their parts.
 use Rattle.std.proofs.Common.{◌≡◌, ℕ, List, [], ◌∷◌, ◌++◌, length, refl, ap, ◌∙◌}
 use Rattle.std.specs.Prelude.{codes}
-use Rattle.acl_model.specs.Bits.{bits_of, bytes_of, first_bytes, number_after}
+use Rattle.acl_model.specs.StreamBits.{bits_of, bytes_of, first_bytes, number_after}
 use Rattle.acl_model.specs.Width.{first_from, least_width}
 use Rattle.acl_model.specs.Dictionary.{dictionary, dictionary_section, start_names, item_start_names, with_name, with_names}
 use Rattle.acl_model.specs.Stream.{Part, Branch, text_part, element_part, size, numbers_with, numbers_in, head_bits, element_branch, branch_of, part_of, tree_at, tree_segments, tree_section, bytes_of_segments}
-use Rattle.acl_model.specs.StreamExamples.{plain_element, one_text, one_child, two_children}
+use Rattle.acl_model.specs.inside.StreamExamples.{plain_element, one_text, one_child, two_children}
 use Rattle.acl_model.specs.declared.document.Doc.{Doc}
 use Rattle.acl_model.specs.declared.document.Element.{Element}
 use Rattle.acl_model.specs.declared.document.Item.TheVariants.{Text, Child}
@@ -13,7 +13,7 @@ use Rattle.acl_model.specs.declared.document.Item.TheOpen.{Element-F}
 use Rattle.acl_model.proofs.StreamEquations.{branch_of_is, part_of-Text, part_of-Child}
 use Rattle.acl_model.proofs.DictionaryLaws.{start_names_is, item_start_names-Text, item_start_names-Child}
 
--- the tree bytes of a root under so many names
+-- the bytes of the tree with this root, for a dictionary of so many names
 abbrev bytes_under : ℕ → Branch → List ℕ
 bytes_under names root = bytes_of_segments (tree_at names root (least_width (λ w. size (tree_at names root w))))
 
@@ -26,14 +26,14 @@ tree_section_is : (d : Doc) (names : List (List ℕ)) → dictionary d ≡ names
 unfolding tree_segments
 tree_section_is d names known = ap (λ ns. bytes_under (length ns) (branch_of ns d.root)) known
 
--- a leaf, by its text or without one
+-- an element without element children, with one text or with none
 leaf_branch : (names : List (List ℕ)) (name bytes : List ℕ) → branch_of names (plain_element name (Text bytes ∷ [])) ≡ element_branch names (parted name (text_part bytes ∷ []))
 leaf_branch names name bytes = branch_of_is names (plain_element name (Text bytes ∷ [])) ∙ ap (λ p. element_branch names (parted name (p ∷ []))) (part_of-Text names bytes)
 
 empty_branch : (names : List (List ℕ)) (name : List ℕ) → branch_of names (plain_element name []) ≡ element_branch names (parted name [])
 empty_branch names name = branch_of_is names (plain_element name [])
 
--- the same of their names
+-- the names of such elements
 leaf_names : (name bytes : List ℕ) → start_names (plain_element name (Text bytes ∷ [])) ≡ name ∷ []
 leaf_names name bytes = start_names_is (plain_element name (Text bytes ∷ [])) ∙ ap (λ ns. name ∷ (ns ++ [])) (item_start_names-Text bytes)
 

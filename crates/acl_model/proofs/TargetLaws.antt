@@ -1,4 +1,4 @@
--- The targets of a predicate are the elements at the places to which its way leads from the bearer.
+-- The targets of a predicate are the elements at the places to which the predicate's path leads from the context node.
 use Rattle.std.proofs.Common.{◌≡◌, ℕ, zero, suc, Bool, true, false, ◌&&◌, ◌||◌, nat_eq, Some, None, List, [], ◌∷◌, ◌++◌, map, ap, sym, subst, ◌∙◌, refl, inl, inr, ◌⊎◌}
 use Rattle.std.proofs.lemmas.Bool.{true≢false}
 use Rattle.std.proofs.lemmas.Option.{option_and_then_some, same_Some}
@@ -9,7 +9,7 @@ use Rattle.acl_model.specs.Places.{children, child, below, at}
 use Rattle.acl_model.specs.NameTests.{passes}
 use Rattle.acl_model.specs.Predicates.{descendants, below_item, on_axis, targets}
 use Rattle.acl_model.specs.Select.{NodeSet, leads, is_kept, step, steps}
-use Rattle.acl_model.specs.Targets.{step_of, only, way_leads}
+use Rattle.acl_model.specs.Targets.{step_of, only, path_leads}
 use Rattle.acl_model.proofs.Members.{Has, Contains-has, has-Contains, has_none, has_cases, has_filter, has_filter_cases, has_flat_map, has_flat_map_cases}
 use Rattle.acl_model.proofs.ByChildren.{by_children}
 use Rattle.acl_model.proofs.ValueEquations.{below_item-Text, below_item-Child, descendants_is}
@@ -26,7 +26,7 @@ use Rattle.acl_model.specs.declared.path.PredStep.{PredStep}
 
 -- ---- an axis, down from an element
 
--- a place along the axis, counted from an element on
+-- a place along the axis, relative to an element
 abbrev OnAxis : Axis → List ℕ → Type 0
 OnAxis Child place = (k : ℕ) × (place ≡ k ∷ [])
 OnAxis Descendant place = (k : ℕ) × (rest : List ℕ) × (place ≡ k ∷ rest)
@@ -79,19 +79,19 @@ child_has : (k : ℕ) (e x : Element) → below e (k ∷ []) ≡ Some x → Has 
 child_has zero e x found = absurd (none_is_not_some x found)
 child_has (suc n) e x found = option_and_then_some (λ c. below c []) (slice_get (children e.items) n) x found (λ c is there. (n, is ∙ there))
 
--- what is on the axis stands at a place along it
+-- an element on the axis has a place along it
 axis_found : (axis : Axis) (e x : Element) → Has (on_axis axis e) x → (place : List ℕ) × OnAxis axis place × (below e place ≡ Some x)
 axis_found Child e x h = (suc h.0 ∷ [], (suc h.0, refl), ap (option_and_then (λ c. below c [])) h.1)
 axis_found Descendant e x h = let found = descendant_found e x h in (found.0 ∷ found.1, (found.0, found.1, refl), found.2)
 
--- what stands at a place along the axis is on it
+-- an element at a place along the axis is on it
 axis_has : (axis : Axis) (e x : Element) (place : List ℕ) → OnAxis axis place → below e place ≡ Some x → Has (on_axis axis e) x
 axis_has Child e x place along found = child_has along.0 e x (ap (below e) (sym along.1) ∙ found)
 axis_has Descendant e x place along found = descendant_has along.1 along.0 e x (ap (below e) (sym along.2) ∙ found)
 
 -- ---- an axis, up from a place
 
--- the set, seen from the k-th child on; the virtual root stands for all that is above
+-- the set, relative to the k-th child; the virtual root represents all nodes above it
 abbrev seen_in : Axis → NodeSet → ℕ → NodeSet
 seen_in axis set k None = joined_answer axis (set (Some [])) (set None)
 seen_in axis set k (Some place) = set (Some (k ∷ place))
@@ -118,7 +118,7 @@ from_member Descendant set [] along member is =
     ∙ from_above is.1 (seen_in Descendant set is.0) (ap (λ b. b || set None) member)
 from_member axis set (k ∷ place) along member is = leads-in axis set k (place ++ along) ∙ from_member axis (seen_in axis set k) place along member is
 
--- a member, from which a place lies along the axis
+-- a member of the set from which the axis leads to the place
 abbrev Origin : Axis → NodeSet → List ℕ → Type 0
 Origin axis set place = (start : List ℕ) × (along : List ℕ) × (place ≡ start ++ along) × OnAxis axis along × (set (Some start) ≡ true)
 
@@ -153,7 +153,7 @@ below-cut (k ∷ place) along e x found = option_and_then_some (λ y. below y (p
     let cut = below-cut place along y x there in
     (cut.0, ap (option_and_then (λ z. below z place)) is ∙ cut.1, cut.2))
 
--- ---- the way
+-- ---- the predicate's path
 
 both : (a b : Bool) → a ≡ true → b ≡ true → (a && b) ≡ true
 both a b x y = ap (λ v. v && b) x ∙ y
@@ -166,7 +166,7 @@ second_of_both : (a b : Bool) → (a && b) ≡ true → b ≡ true
 second_of_both true b so = so
 second_of_both false b so = absurd (true≢false (sym so))
 
--- A target stands at a place to which the way leads from a member.
+-- A target of a member is at a place to which the path leads from the set.
 target_reached : (d : Doc) (way : List PredStep) (set : NodeSet) (start : List ℕ) (e x : Element) → at d start ≡ Some e → set (Some start) ≡ true → Has (targets way e) x
     → (place : List ℕ) × (steps d (map step_of way) set (Some place) ≡ true) × (at d place ≡ Some x)
 target_reached d [] set start e x there member h = elim (has_cases e x [] h) [ inl same ↦ (start, member, there ∙ ap Some same) | inr later ↦ absurd (has_none x later) ]
@@ -181,7 +181,7 @@ target_reached d (s ∷ way) set start e x there member h =
     (ap (is_kept (step_of s)) here ∙ both (passes s.test found.0.name) true kept.0 refl))
     found.2
 
--- An element to which the way leads is a target of a member.
+-- An element to which the path leads from the set is a target of a member.
 target_has : (d : Doc) (way : List PredStep) (set : NodeSet) (place : List ℕ) (x : Element) → set None ≡ false → steps d (map step_of way) set (Some place) ≡ true → at d place ≡ Some x
     → (start : List ℕ) × (e : Element) × (set (Some start) ≡ true) × (at d start ≡ Some e) × Has (targets way e) x
 target_has d [] set place x outside so there = (place, x, so, there, (0, refl))
@@ -199,19 +199,19 @@ target_has d (s ∷ way) set place x outside so there =
           last.4,
     )
 
-bearer_is_itself : (bearer : List ℕ) → pointwise nat_eq bearer bearer ≡ true
-bearer_is_itself [] = refl
-bearer_is_itself (k ∷ bearer) = both (nat_eq k k) (pointwise nat_eq bearer bearer) (same_number k) (bearer_is_itself bearer)
+place_is_itself : (start : List ℕ) → pointwise nat_eq start start ≡ true
+place_is_itself [] = refl
+place_is_itself (k ∷ start) = both (nat_eq k k) (pointwise nat_eq start start) (same_number k) (place_is_itself start)
 
--- Each target of a predicate stands at a place to which its way leads from the bearer.
-pub targets_reached : (d : Doc) (bearer : List ℕ) (e x : Element) (way : List PredStep) → at d bearer ≡ Some e → Contains (targets way e) x
-    → (place : List ℕ) × (way_leads d way bearer place ≡ true) × (at d place ≡ Some x)
-targets_reached d bearer e x way there h = target_reached d way (only bearer) bearer e x there (bearer_is_itself bearer) (has-Contains (targets way e) x h)
+-- Each target of a predicate is at a place to which the predicate's path leads from the context node.
+pub targets_reached : (d : Doc) (start : List ℕ) (e x : Element) (way : List PredStep) → at d start ≡ Some e → Contains (targets way e) x
+    → (place : List ℕ) × (path_leads d way start place ≡ true) × (at d place ≡ Some x)
+targets_reached d start e x way there h = target_reached d way (only start) start e x there (place_is_itself start) (has-Contains (targets way e) x h)
 
 -- Each element at such a place is a target.
-pub targets_all : (d : Doc) (bearer place : List ℕ) (e x : Element) (way : List PredStep) → at d bearer ≡ Some e → way_leads d way bearer place ≡ true → at d place ≡ Some x
+pub targets_all : (d : Doc) (start place : List ℕ) (e x : Element) (way : List PredStep) → at d start ≡ Some e → path_leads d way start place ≡ true → at d place ≡ Some x
     → Contains (targets way e) x
-targets_all d bearer place e x way there leads_there found =
-    let origin = target_has d way (only bearer) place x refl leads_there found in
-    let same : origin.1 ≡ e = same_Some origin.1 e (sym origin.3 ∙ ap (at d) (same_text origin.0 bearer (sym origin.2)) ∙ there) in
+targets_all d start place e x way there leads_there found =
+    let origin = target_has d way (only start) place x refl leads_there found in
+    let same : origin.1 ≡ e = same_Some origin.1 e (sym origin.3 ∙ ap (at d) (same_text origin.0 start (sym origin.2)) ∙ there) in
     Contains-has (targets way e) x (subst (λ y. Has (targets way y) x) same origin.4)

@@ -1,4 +1,5 @@
--- The text of an element and of each kind of item, as equations. A fold doesn't compute by itself, so proofs cite these.
+-- The text of an element and of each kind of item, as equations. A fold doesn't compute by itself, so proofs cite
+-- these.
 use Rattle.std.proofs.Common.{◌≡◌, ℕ, List, ◌++◌, map, ap, sym, ◌∙◌}
 use Rattle.std.specs.List.{concat}
 use Rattle.acl_model.specs.Ascii.{left_parenthesis, right_parenthesis, hyphen, capital_a}
@@ -23,5 +24,5 @@ pub item_text-Child : (e : Element) → item_text (Child e) ≡ element_text e
 unfolding element_text item_text
 item_text-Child e = ap item_text (sym (rolls-Child e)) ∙ fold-roll-Item (List ℕ) (List ℕ) item_lines element_lines (Item-F.Child e)
 
--- the three of them
+-- these three equations, as a rule set
 pub ruleset text_equations = (element_text_is, item_text-Text, item_text-Child)

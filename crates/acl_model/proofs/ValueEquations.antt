@@ -16,37 +16,37 @@ pub string_value_is : (e : Element) → string_value e ≡ concat (map value_of_
 unfolding string_value value_of_item
 string_value_is e = fold_out-Element (List ℕ) (List ℕ) _ _ e
 
--- what a text adds
+-- what a text contributes
 pub value_of_item-Text : (bytes : List ℕ) → value_of_item (Text bytes) ≡ bytes
 unfolding value_of_item
 value_of_item-Text bytes = ap value_of_item (sym (rolls-Text bytes)) ∙ fold-roll-Item (List ℕ) (List ℕ) _ _ (Item-F.Text bytes)
 
--- what a child element adds
+-- what a child element contributes
 pub value_of_item-Child : (e : Element) → value_of_item (Child e) ≡ string_value e
 unfolding string_value value_of_item
 value_of_item-Child e = ap value_of_item (sym (rolls-Child e)) ∙ fold-roll-Item (List ℕ) (List ℕ) _ _ (Item-F.Child e)
 
--- the three of them
+-- these three equations, as a rule set
 pub ruleset value_equations = (string_value_is, value_of_item-Text, value_of_item-Child)
 
 -- ---- descendants
 
--- A text gives no element.
+-- A text contributes no element.
 pub below_item-Text : (bytes : List ℕ) → below_item (Text bytes) ≡ []
 unfolding below_item
 below_item-Text bytes = ap below_item (sym (rolls-Text bytes)) ∙ para-roll-Item (List Element) (List Element) below_layer below_element (Item-F.Text bytes)
 
--- A child element gives itself and its descendants.
+-- A child element contributes itself and its descendants.
 pub below_item-Child : (e : Element) → below_item (Child e) ≡ e ∷ descendants e
 unfolding below_item descendants
 below_item-Child e = ap below_item (sym (rolls-Child e)) ∙ para-roll-Item (List Element) (List Element) below_layer below_element (Item-F.Child e)
 
--- The descendants of an element are what its items give.
+-- The descendants of an element are what its items contribute.
 pub descendants_is : (e : Element) → descendants e ≡ flat_map below_item e.items
 unfolding below_item descendants
 descendants_is e =
     ap descendants (sym (roll-out-Element e)) ∙ para-roll-Element (List Element) (List Element) below_layer below_element (out-Element e)
     ∙ flat_map-map {A = Item} {B = Item × List Element} {C = Element} (λ item. item.1) (λ y. (y, below_item y)) e.items
 
--- the three of them
+-- these three equations, as a rule set
 pub ruleset descendant_equations = (below_item-Text, below_item-Child, descendants_is)

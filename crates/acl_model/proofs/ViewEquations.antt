@@ -1,4 +1,5 @@
--- The views of an element and of each kind of item, as equations; and that an element shows where a place in it is granted.
+-- The views of an element and of each kind of item, as equations. An element is shown exactly where a place in it is
+-- granted.
 use Rattle.std.proofs.Common.{◌≡◌, ℕ, ◌+◌, Bool, true, false, ◌||◌, Option, Some, None, List, [], ◌∷◌, map, is_some, ap, sym, ◌∙◌, refl, subst}
 use Rattle.acl_model.specs.Places.{element_in, element_of}
 use Rattle.acl_model.specs.View.{Signs, in_child, ItemFilter, words, inner, ElementFilter, item_filter, element_filter, filter_of, filter_of_item, grant_within, is_grant, with_child, views, view_by_sign}
@@ -10,7 +11,7 @@ use Rattle.acl_model.specs.declared.document.Item.TheFolds.{fold_out-Element, fo
 use Rattle.acl_model.specs.declared.rule.Sign.{Sign}
 use Rattle.acl_model.specs.declared.rule.Sign.TheVariants.{Grant, Deny}
 
--- what an element gives, by its items
+-- the two functions of an element, by its items
 pub filter_of_is : (e : Element) → filter_of e ≡ element_filter (record { name = e.name; attributes = e.attributes; items = map filter_of_item e.items })
 unfolding filter_of filter_of_item
 filter_of_is e = fold_out-Element ItemFilter ElementFilter item_filter element_filter e
@@ -53,14 +54,14 @@ child_filled : (o : Option Element) (items : List Item) → is_filled (with_chil
 child_filled None items = refl
 child_filled (Some e) items = refl
 
--- An element shows in the view exactly where it, or a place inside it, is granted.
+-- An element is shown in the view exactly where it, or a place inside it, is granted.
 pub shows_where_granted : (e : Element) (signs : Signs) → is_some ((filter_of e).view signs) ≡ (filter_of e).has_grant signs
 shows_where_granted e signs =
     ap (λ s. is_some (s.view signs)) (filter_of_is e)
     ∙ view_by_sign-some (signs []) (grant_within (map filter_of_item e.items) signs 1) e.name e.attributes (views (signs []) (map filter_of_item e.items) signs 1)
     ∙ sym (ap (λ s. s.has_grant signs) (filter_of_is e))
 
--- The items of a dummy are none exactly where no place in them is granted.
+-- A dummy has no items exactly where no place in them is granted.
 pub views-empty : (items : List Item) (signs : Signs) (k : ℕ) → is_filled (views Deny (map filter_of_item items) signs k) ≡ grant_within (map filter_of_item items) signs k
 views-empty [] signs k = refl
 views-empty (item ∷ items) signs k =

@@ -1,4 +1,4 @@
--- The view of a view document is a view document: of a document, and of a view of one.
+-- The view of a view document is a view document. This covers the view of a document, and the view of such a view.
 use Rattle.std.proofs.Common.{◌≡◌, ℕ, ◌+◌, ◌≤◌, Bool, true, false, ◌&&◌, nat_le, Option, Some, None, List, [], ◌∷◌, map, length, refl, ap, sym, ◌∙◌, subst, arith}
 use Rattle.std.proofs.lemmas.Bool.Decides.{nat_tests}
 use Rattle.std.specs.Cmp.{first_so, second_so}
@@ -31,15 +31,15 @@ same_within x y h = ap (λ o. unwrap_or o x) h
 all_four : (a b c d : Bool) → a ≡ true → b ≡ true → c ≡ true → d ≡ true → (a && b && c && d) ≡ true
 all_four a b c d p q r s = rw (p, q, r, s) refl
 
--- an element of a view, beside the element that it shows: of the right form, and no higher
+-- an element of a view has the right form, and is no higher than the element that it shows
 abbrev Fits : Element → Element → Type 0
 Fits x e = (is_well_formed is_view_name x ≡ true) × (height x ≤ height e)
 
--- what is shown of items, beside the items
+-- the same for the items that are shown
 abbrev ItemsFit : List Item → List Item → Type 0
 ItemsFit shown items = (list_all (λ b. b) (map (item_well_formed is_view_name) shown) ≡ true) × (greatest (map height_of_item shown) ≤ greatest (map height_of_item items))
 
--- what an element of a view document shows fits it
+-- the view of an element of a view document has this property
 abbrev ShowsFit : Element → Type 0
 ShowsFit e = (signs : Signs) (x : Element) → is_well_formed is_view_name e ≡ true → (filter_of e).view signs ≡ Some x → Fits x e
 
@@ -74,7 +74,7 @@ items_fit (pair ∷ pairs) own signs k good =
     (items_fit pairs own signs (k + 1) (second_so (item_well_formed is_view_name (Child c)) (list_all (λ b. b) (map (item_well_formed is_view_name) items)) ok))))
     pair.0 pair.1 good
 
--- an element of the view, from what its items show
+-- an element of the view, from the views of its items
 made_fits : (own : Sign) (inside : Bool) (e x : Element) (items : List Item) → is_well_formed is_view_name e ≡ true → ItemsFit items e.items → view_by_sign own inside e.name e.attributes items ≡ Some x → Fits x e
 made_fits Grant inside e x items good fit is =
     let y : Element = record { name = e.name; attributes = e.attributes; items = items } in
@@ -110,7 +110,7 @@ item_fits : (y : Item-F ((item : Item) × ItemShowsFit item) ((e : Element) × S
 item_fits (Item-F.Text bytes) e told = absurd (none_is_not_some e (sym (ap element_in (out-roll-Item (Item-F.Text bytes))) ∙ told))
 item_fits (Item-F.Child pair) e told = subst ShowsFit (same_within pair.0 e (sym (ap element_in (out-roll-Item (Item-F.Child pair.0))) ∙ told)) pair.1
 
--- What an element of a view document shows is of the right form, and no higher.
+-- The view of an element of a view document has the right form, and is no higher than the element.
 shows_fit : (e : Element) → ShowsFit e
 shows_fit = ind-Element ItemShowsFit ShowsFit
     (λ x y is. subst (λ z. ItemShowsFit (roll-Item z)) is (item_fits y))

@@ -1,15 +1,15 @@
--- The least width: that it is found, that it is one, and that a length tells it.
+-- The least width: that it is found, that there is only one, and that it can be computed from a length.
 use Rattle.std.proofs.Common.{◌≡◌, ℕ, zero, suc, ◌+◌, ◌^◌, ◌<◌, ◌≤◌, Bool, true, false, cond, nat_lt, refl, ap, sym, ◌∙◌, subst, ⊎_elim, ◌≢◌, nat_eq, arith}
 use Rattle.std.proofs.lemmas.Bool.{cases_Bool, true≢false}
 use Rattle.std.proofs.lemmas.Bool.Decides.{nat_tests}
 use Rattle.acl_model.specs.Width.{first_from, least_width, binary_length, IsLeastWidth}
 
--- a number that passes is the first
+-- where the first candidate passes, it is found
 first_from-here : (test : ℕ → Bool) (more from : ℕ) → test from ≡ true → first_from test (suc more) from ≡ from
 unfolding first_from
 first_from-here test more from passes = ap (λ b. cond b from (first_from test more (from + 1))) passes
 
--- one that doesn't is passed over
+-- where it doesn't, the search goes on after it
 first_from-on : (test : ℕ → Bool) (more from : ℕ) → test from ≡ false → first_from test (suc more) from ≡ first_from test more (from + 1)
 unfolding first_from
 first_from-on test more from fails = ap (λ b. cond b from (first_from test more (from + 1))) fails
@@ -18,7 +18,7 @@ first_from-end : (test : ℕ → Bool) (from : ℕ) → first_from test zero fro
 unfolding first_from
 first_from-end test from = refl
 
--- the first lies at or behind `from`, and no number before it passes
+-- the number found is at least `from`, and no number before it passes
 first_from-least : (test : ℕ → Bool) (more from v : ℕ) → from ≤ v → v < first_from test more from → test v ≡ false
 first_from-least test zero from v above below = let end = first_from-end test from in absurd (omega arith)
 first_from-least test (suc more) from v above below = ⊎_elim
@@ -32,7 +32,7 @@ first_from-least test (suc more) from v above below = ⊎_elim
     (cases_Bool (nat_eq from v)))
     (cases_Bool (test from))
 
--- where a number among so many passes, or the one behind them, so does the first
+-- where one of the candidates passes, or the number after them, so does the number found
 first_from-passes : (test : ℕ → Bool) (more from v : ℕ) → from ≤ v → v ≤ from + more → test v ≡ true → test (first_from test more from) ≡ true
 first_from-passes test zero from v above within passes =
     let same : v ≡ from = omega arith in
@@ -58,13 +58,13 @@ least_width-least size w within fits =
           grind (arith, nat_tests);
     }
 
--- there is one least width at most
+-- there is at most one least width
 pub least_width-one : (size : ℕ → ℕ) (v w : ℕ) → IsLeastWidth size v → IsLeastWidth size w → v ≡ w
 least_width-one size v w one other = ⊎_elim
     (λ below. let more = other.least v (grind (arith, nat_tests)) in let fits = one.fits in absurd (omega arith))
     (λ above. ⊎_elim
     (λ below. let more = one.least w (grind (arith, nat_tests)) in let fits = other.fits in absurd (omega arith))
-    (λ behind. grind (arith, nat_tests))
+    (λ after. grind (arith, nat_tests))
     (cases_Bool (nat_lt w v)))
     (cases_Bool (nat_lt v w))
 

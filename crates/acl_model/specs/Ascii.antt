@@ -1,4 +1,4 @@
--- The bytes that the lines, names and paths of this project are made of, by their ASCII names.
+-- Names for the ASCII bytes that lines, names and paths use.
 use Rattle.std.specs.Prelude.{ℕ, Bool, nat_lt, List}
 use Rattle.std.specs.List.{list_all}
 
@@ -6,7 +6,7 @@ use Rattle.std.specs.List.{list_all}
 abbrev pub is_byte : ℕ → Bool
 is_byte b = nat_lt b 256
 
--- Each of them is a byte.
+-- Each number of the list is a byte.
 abbrev pub are_bytes : List ℕ → Bool
 are_bytes bytes = list_all is_byte bytes
 
@@ -14,7 +14,7 @@ are_bytes bytes = list_all is_byte bytes
 abbrev pub line_feed : ℕ
 line_feed = 10
 
--- ' ', which stands between the parts of a line
+-- ' ', which separates the parts of a line
 abbrev pub space : ℕ
 space = 32
 
@@ -38,7 +38,7 @@ plus = 43
 abbrev pub hyphen : ℕ
 hyphen = 45
 
--- '.', which may stand in a name behind its first byte
+-- '.', which a name may contain after its first byte
 abbrev pub full_stop : ℕ
 full_stop = 46
 
@@ -46,7 +46,7 @@ full_stop = 46
 abbrev pub slash : ℕ
 slash = 47
 
--- ':', which may stand in a name
+-- ':', which a name may contain
 abbrev pub colon : ℕ
 colon = 58
 
@@ -54,10 +54,10 @@ colon = 58
 abbrev pub capital_a : ℕ
 capital_a = 65
 
--- '_', which may stand in a name
+-- '_', which a name may contain
 abbrev pub underscore : ℕ
 underscore = 95
 
--- the last control character of ASCII, which is no printable byte
+-- DEL, the last control character of ASCII, which isn't printable
 abbrev pub delete : ℕ
 delete = 127

@@ -1,5 +1,5 @@
--- A second form of the definitions, for programs that go down a tree: an element with its ancestors, the nearest first,
--- in the place of its place. The laws of `laws.rt` tie it to the first form.
+-- A second form of the definitions, for programs that walk down a tree. An element is given by itself and its
+-- ancestors, the nearest first, and not by its place. The laws in `laws.rt` show that both forms are equivalent.
 use Rattle.std.specs.Prelude.{ℕ, Option, Some, None, Bool, true, false, ◌&&◌, ◌||◌, List, [], ◌∷◌, if◌then◌else◌}
 use Rattle.std.specs.List.{list_any}
 use Rattle.std.specs.Option.{option_and_then, option_map_or}
@@ -15,7 +15,7 @@ use Rattle.acl_model.specs.declared.rule.Rule.{Rule}
 use Rattle.acl_model.specs.declared.rule.Sign.{Sign}
 use Rattle.acl_model.specs.declared.rule.Sign.TheVariants.{Grant, Deny}
 
--- an element, its parent, and so on to the root; [] stands for the virtual root
+-- A chain is an element, its parent, and so on to the root; [] is the virtual root.
 abbrev pub Chain : Type 0
 Chain = List Element
 
@@ -28,18 +28,19 @@ abbrev pub is_virtual_root : ChainSet
 is_virtual_root [] = true
 is_virtual_root (e ∷ up) = false
 
--- An axis leads from the set to an element whose ancestors are `up`: from its parent, or from any of them (XPath 1.0, 2.2).
+-- whether an axis leads from the set to an element with the ancestors `up`: whether the set contains its parent, or
+-- any of its ancestors (XPath 1.0, 2.2)
 abbrev pub leads_below : Axis → ChainSet → Chain → Bool
 leads_below Child set up = set up
 leads_below Descendant set [] = set []
 leads_below Descendant set (e ∷ up) = set (e ∷ up) || leads_below Descendant set up
 
--- A step replaces the set by the elements that its axis leads to and that it keeps (XPath 1.0, 2.1).
+-- The result of a step is the set of the elements that its axis leads to and that it keeps (XPath 1.0, 2.1).
 abbrev pub chain_step : Step → ChainSet → ChainSet
 chain_step s set [] = false
 chain_step s set (e ∷ up) = leads_below s.axis set up && keeps s e
 
--- All steps, the first one first.
+-- the steps applied in order, each to the result of the step before it
 abbrev pub chain_steps : List Step → ChainSet → ChainSet
 chain_steps [] set = set
 chain_steps (s ∷ more) set = chain_steps more (chain_step s set)
@@ -48,7 +49,8 @@ chain_steps (s ∷ more) set = chain_steps more (chain_step s set)
 unfoldable pub selects : Path → ChainSet
 selects path = chain_steps path.steps is_virtual_root
 
--- the sign of the first element: that of the nearest element of the chain that a rule selects
+-- the sign of the first element of a chain. The nearest element of the chain that a rule selects decides: Deny where a
+-- rule that denies selects it, and else Grant. Where no rule selects any of them, the sign is Deny.
 abbrev pub chain_sign : List Rule → Chain → Sign
 chain_sign rules [] = Deny
 chain_sign rules (e ∷ up) =
@@ -56,7 +58,7 @@ chain_sign rules (e ∷ up) =
     then (if list_any (λ r. is_deny r.sign && selects r.path (e ∷ up)) rules then Deny else Grant)
     else chain_sign rules up
 
--- the chain of the element at a place that is counted from e on, which stands below `up`
+-- the chain of the element at a place relative to e, where the ancestors of e are `up`
 abbrev pub chain_at : Element → Chain → List ℕ → Option Chain
 chain_at e up [] = Some (e ∷ up)
 chain_at e up (k ∷ place) = option_and_then (λ c. chain_at c (e ∷ up) place) (child e.items k)
@@ -66,7 +68,8 @@ abbrev pub on_chain : ChainSet → Option Chain → Bool
 on_chain set None = false
 on_chain set (Some chain) = set chain
 
--- The signs of e and of the places inside it. A place without an element has the sign of the last element on the way.
+-- The signs of e and of the places inside it. Where there is no element at a place, its sign is that of the last
+-- element on the path down to it.
 abbrev pub chain_signs : List Rule → Element → Chain → List ℕ → Sign
 chain_signs rules e up [] = chain_sign rules (e ∷ up)
 chain_signs rules e up (k ∷ place) = option_map_or (λ c. chain_signs rules c (e ∷ up) place) (child e.items k) (chain_sign rules (e ∷ up))

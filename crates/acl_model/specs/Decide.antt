@@ -26,11 +26,11 @@ is_denied d rules place = list_any (λ r. is_deny r.sign && select d r.path plac
 abbrev pub decider : Doc → List Rule → List ℕ → Option (List ℕ)
 decider d rules place = find (is_selected d rules) (prefixes place)
 
--- Denied where there is no decider, or a rule that denies selects it, and else granted.
+-- The sign is Deny where there is no decider, or where a rule that denies selects the decider; else it is Grant.
 abbrev pub sign_by : Doc → List Rule → Option (List ℕ) → Sign
 sign_by d rules None = Deny
 sign_by d rules (Some place) = if is_denied d rules place then Deny else Grant
 
--- the sign of a place: that of its decider
+-- the sign of a place, given by its decider
 unfoldable pub sign : Doc → List Rule → List ℕ → Sign
 sign d rules place = sign_by d rules (decider d rules place)

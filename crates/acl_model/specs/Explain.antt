@@ -1,5 +1,5 @@
--- What `explain` tells: where signs come from (VLDB 2004, conflict resolution), element by element, and its lines. The
--- lines are this project's format.
+-- What `explain` writes: for an element, its sign and the rule that decides it (VLDB 2004, conflict resolution), as a
+-- line. The format of the lines is defined by this project.
 use Rattle.std.specs.Prelude.{ℕ, Option, Some, None, Bool, true, false, ◌&&◌, ◌||◌, List, [], ◌∷◌, ◌++◌, map, codes, decimal}
 use Rattle.std.specs.List.{filter, position, slice_get, concat}
 use Rattle.std.specs.Option.{option_and_then, option_map_or}
@@ -29,13 +29,14 @@ is_same_sign Deny Deny = true
 abbrev pub first_rule : Doc → List Rule → Sign → List ℕ → Option ℕ
 first_rule d rules own place = position (λ r. is_same_sign r.sign own && select d r.path place) rules
 
--- What is told of an element: its place, its sign, and the number of the rule that the sign comes from.
+-- An explanation of an element: its place, its sign, and the number of the rule that the sign comes from.
 pub record Explanation : Type 0 where
   pub place : List ℕ
   pub sign : Sign
   pub rule : Option ℕ
 
--- The rule is the first of the element's sign that selects its decider, and none where it has no decider.
+-- the explanation of the element at a place. The rule is the first rule of the element's sign that selects its decider,
+-- and None where there is no decider.
 abbrev pub explanation_of : Doc → List Rule → List ℕ → Explanation
 explanation_of d rules place = record {
   place = place;
@@ -43,16 +44,16 @@ explanation_of d rules place = record {
   rule = option_and_then (first_rule d rules (sign d rules place)) (decider d rules place);
 }
 
--- The place is the root's.
+-- The place is that of the root.
 abbrev pub is_root : List ℕ → Bool
 is_root [] = true
 is_root (k ∷ place) = false
 
--- Something is told of the root, and of each element that some rule selects.
+-- The root is explained, and each element that some rule selects.
 abbrev pub is_explained : Doc → List Rule → List ℕ → Bool
 is_explained d rules place = is_root place || is_selected d rules place
 
--- what is told of a document, in document order
+-- the explanations of a document, in document order
 abbrev pub explain : Doc → List Rule → List Explanation
 explain d rules = map (explanation_of d rules) (filter (is_explained d rules) (places d))
 
@@ -68,12 +69,12 @@ abbrev pub rule_word : List Rule → Option ℕ → List ℕ
 rule_word rules None = codes "closed"
 rule_word rules (Some number) = option_map_or (λ r. r.id) (slice_get rules number) []
 
--- A place is '/' and a child number, in decimal, for each level below the root. The root's is '/'.
+-- A place is written as '/' and a child number in decimal, for each level below the root. That of the root is '/'.
 abbrev pub place_text : List ℕ → List ℕ
 place_text [] = slash ∷ []
 place_text (k ∷ place) = concat (map (λ number. slash ∷ decimal number) (k ∷ place))
 
--- A line is the sign, a space, the rule's id or 'closed', a space, and the place.
+-- A line is the sign, a space, the rule's id or 'closed', a space, the place, and a line feed.
 abbrev pub explanation_line : List Rule → Explanation → List ℕ
 explanation_line rules told = as_line (sign_byte told.sign ∷ space ∷ (rule_word rules told.rule ++ (space ∷ place_text told.place)))
 

@@ -4,13 +4,11 @@ pub mod Names
 pub mod Lines
 pub mod Lists
 pub mod Document
-pub mod Form
 pub mod Text
 pub mod Dictionary
-pub mod Bits
+pub mod StreamBits
 pub mod Width
 pub mod Stream
-pub mod StreamExamples
 pub mod Places
 pub mod NameTests
 pub mod Values
@@ -21,6 +19,7 @@ pub mod Select
 pub mod Targets
 pub mod Decide
 pub mod Explain
-pub mod Rules
+pub mod RuleNumbers
 pub mod View
 pub mod Chain
+pub mod inside

@@ -1,4 +1,4 @@
--- The limits of documents, paths, licences and keys. All are this project's own.
+-- The limits of documents, paths, licences and keys. All are defined by this project.
 use Rattle.std.specs.Prelude.{ℕ}
 
 -- ---- documents
@@ -49,7 +49,7 @@ most_digits = 18
 abbrev pub most_rules : ℕ
 most_rules = 64
 
--- steps of the paths of a licence in all, and of those of a query
+-- steps of all paths of a licence together, and steps of the path of a query
 abbrev pub most_steps : ℕ
 most_steps = 256
 
@@ -69,6 +69,6 @@ most_id_bytes = 32
 abbrev pub most_user_bytes : ℕ
 most_user_bytes = 255
 
--- bytes of keys, of a licence, and of the body of one: 128 KiB
+-- bytes of a key file, of a licence, and of the body of a licence: 128 KiB
 abbrev pub most_key_bytes : ℕ
 most_key_bytes = 131072

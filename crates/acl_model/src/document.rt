@@ -13,9 +13,10 @@ pub struct Doc {
 #[cycle(tree)]
 #[derive(Debug, Drop)]
 pub struct Element {
-    /// 1 to 255 bytes. The name `-` stands only in views, for an element that is kept for what is inside it.
+    /// 1 to 255 bytes. The name `-` occurs only in views: it is that of a dummy, an element that is denied but shown
+    /// for what is inside it.
     pub name: Name,
-    /// Each as it stood in its line: a name, a space, a type in capital letters and perhaps a space and a value.
+    /// Each as it was in its line: a name, a space, a type in capital letters, and perhaps a space and a value.
     pub attributes: Sequence<Bytes>,
     /// Texts and child elements, in document order.
     pub items: Items<Item>,
@@ -25,7 +26,7 @@ pub struct Element {
 #[cycle(tree)]
 #[derive(Debug, Drop)]
 pub enum Item {
-    /// Bytes as they stood in their line, with their escapes.
+    /// The bytes as they were in their line, with their escapes.
     Text(Bytes),
     Child(Boxed<Element>),
 }

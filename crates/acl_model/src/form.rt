@@ -1,5 +1,5 @@
-//! Whether a tree is a document, or a view of one: names, raw attributes and texts of the right
-//! form, and not too deep.
+//! Checks that a tree is a document or a view document: that its names, raw attributes and texts have the right form,
+//! and that it isn't too deep.
 
 ghost use Rattle.std.specs.Prelude.{◌≡◌, ◌&&◌, nat_eq, nat_le, map, length};
 ghost use Rattle.std.specs.Char.{is_ascii_uppercase};
@@ -8,7 +8,7 @@ ghost use Rattle.acl_model.specs.Limits.{most_attributes};
 ghost use Rattle.acl_model.specs.Ascii.{space, line_feed};
 ghost use Rattle.acl_model.specs.Lines.{lacks, is_within_line};
 ghost use Rattle.acl_model.specs.Document.{is_type, is_raw_attribute, is_dummy_name, is_well_formed, item_well_formed, greatest, height, height_of_item, is_document, is_view_document};
-ghost use Rattle.acl_model.specs.Form.{allows};
+ghost use Rattle.acl_model.specs.inside.Form.{allows};
 
 use crate::document::{Doc, Element, Item};
 use crate::limits::{MOST_ATTRIBUTES, MOST_OPEN_ELEMENTS};
@@ -23,21 +23,21 @@ enum Allowed {
     InViews,
 }
 
-/// Whether it is a document. No element past the greatest depth is looked at.
+/// Whether the tree is a document. No element below the greatest depth is read.
 pub fn is_document(doc: &Doc) -> bool
     ensures { result ≡ is_document doc.now }
 {
     element_is_formed(&doc.root, Allowed::InDocuments, MOST_OPEN_ELEMENTS)
 }
 
-/// Whether it is a view of a document. No element past the greatest depth is looked at.
+/// Whether the tree is a view document. No element below the greatest depth is read.
 pub fn is_view_document(doc: &Doc) -> bool
     ensures { result ≡ is_view_document doc.now }
 {
     element_is_formed(&doc.root, Allowed::InViews, MOST_OPEN_ELEMENTS)
 }
 
-/// Whether an element is of the right form, and has at most so many levels.
+/// Whether an element has the right form and at most `levels` levels.
 #[cycle(form)]
 fn element_is_formed(element: &Element, names: Allowed, levels: u16) -> bool
     ensures { result ≡ (is_well_formed (allows names) element.now
@@ -49,7 +49,7 @@ fn element_is_formed(element: &Element, names: Allowed, levels: u16) -> bool
     items_are_formed(element.items.as_slice(), names, levels - 1)
 }
 
-/// The same of items, one and all.
+/// The same for all items of a list.
 #[cycle(form)]
 fn items_are_formed(items: &[Item], names: Allowed, levels: u16) -> bool
     ensures { result ≡ (list_all (λ b. b) (map (item_well_formed (allows names)) items.now)
@@ -63,7 +63,7 @@ fn items_are_formed(items: &[Item], names: Allowed, levels: u16) -> bool
     true
 }
 
-/// The same of one item.
+/// The same for one item.
 #[cycle(form)]
 #[tactic(auto, using(crate::proofs::FormEquations::form_equations))]
 fn item_is_formed(item: &Item, names: Allowed, levels: u16) -> bool
@@ -76,7 +76,7 @@ fn item_is_formed(item: &Item, names: Allowed, levels: u16) -> bool
     }
 }
 
-/// Whether an element's name and attributes are of the right form.
+/// Whether an element's name and attributes have the right form.
 fn has_own_form(element: &Element, names: Allowed) -> bool
     ensures { result ≡ (allows names element.now.name
         && nat_le (length element.now.attributes) most_attributes
@@ -104,7 +104,7 @@ fn is_dummy(name: &[u8]) -> bool
     matches!(name, [b'-'])
 }
 
-/// Whether each is a raw attribute.
+/// Whether all are raw attributes.
 fn are_raw_attributes(attributes: &[Bytes]) -> bool
     ensures { result ≡ list_all is_raw_attribute attributes.now }
 {
@@ -112,20 +112,20 @@ fn are_raw_attributes(attributes: &[Bytes]) -> bool
         .iter()
         .all(|raw| is_raw_attribute(raw.as_slice()))
 }
-/// Whether these are a name, a space and a type, and then nothing, or a space and a value.
+/// Whether these are a name, a space and a type, and perhaps a space and a value.
 fn is_raw_attribute(raw: &[u8]) -> bool
     ensures { result ≡ is_raw_attribute raw.now }
 {
-    let Some((name, behind)) = cut(raw, b' ') else {
+    let Some((name, after)) = cut(raw, b' ') else {
         return false;
     };
-    if !is_a_name(name) || !is_type(first_word(behind)) {
+    if !is_a_name(name) || !is_type(first_word(after)) {
         return false;
     }
     fits_a_line(raw)
 }
 
-/// What stands before the first space, or all where there is none.
+/// What comes before the first space, or all bytes where there is none.
 fn first_word(bytes: &[u8]) -> &[u8]
     ensures { result.now ≡ before_first (λ b. nat_eq b space) bytes.now }
 {
@@ -135,7 +135,7 @@ fn first_word(bytes: &[u8]) -> &[u8]
     }
 }
 
-/// Whether these are capital letters, one at least.
+/// Whether these are capital letters, at least one.
 fn is_type(bytes: &[u8]) -> bool
     ensures { result ≡ is_type bytes.now }
 {

@@ -1,6 +1,6 @@
-//! That the two forms of the definitions say the same, by places of a whole document and by an element with its ancestors;
-//! where an element shows; that texts are bytes; that least widths are one, and what small streams are. These functions
-//! do nothing: their contracts are the laws.
+//! Laws of the definitions. Paths and signs are defined twice, by the places of a document and by an element with its
+//! ancestors, and both forms are equivalent. Other laws are about views, places, texts, widths and small streams. These
+//! functions do nothing: their contracts are the laws.
 
 ghost use Rattle.std.specs.Prelude.{◌≡◌, ℕ, ◌^◌, ◌<◌, ◌≤◌, List, [], ◌∷◌, Some, true, is_some, if◌then◌else◌};
 ghost use Rattle.std.specs.List.{Contains};
@@ -10,14 +10,14 @@ ghost use Rattle.acl_model.specs.Text.{text};
 ghost use Rattle.acl_model.specs.Places.{below, at, places, times};
 ghost use Rattle.acl_model.specs.Predicates.{targets};
 ghost use Rattle.acl_model.specs.Select.{select};
-ghost use Rattle.acl_model.specs.Targets.{way_leads};
+ghost use Rattle.acl_model.specs.Targets.{path_leads};
 ghost use Rattle.acl_model.specs.Decide.{sign};
 ghost use Rattle.acl_model.specs.View.{Signs, filter_of, view};
 ghost use Rattle.acl_model.specs.Chain.{selects, on_chain, chain_at, chain_signs};
 ghost use Rattle.acl_model.specs.Dictionary.{dictionary, dictionary_section};
 ghost use Rattle.acl_model.specs.Width.{least_width, binary_length, IsLeastWidth};
 ghost use Rattle.acl_model.specs.Stream.{tree_section};
-ghost use Rattle.acl_model.specs.StreamExamples.{one_text, one_child, two_children};
+ghost use Rattle.acl_model.specs.inside.StreamExamples.{one_text, one_child, two_children};
 ghost use Rattle.acl_model.specs.declared.document.Doc.{Doc};
 ghost use Rattle.acl_model.specs.declared.document.Element.{Element};
 ghost use Rattle.acl_model.specs.declared.path.Path.{Path};
@@ -31,14 +31,14 @@ pub fn paths_select_by_ancestors()
         → select d path place ≡ on_chain (selects path) (chain_at d.root [] place) }
 {}
 
-/// An element is among the targets of a predicate exactly where it stands at a place to which the way leads from the
-/// bearer, by the steps of paths and their sets of places.
-pub fn targets_stand_where_ways_lead()
-    ensures reached { (d : Doc) (bearer : List ℕ) (e x : Element) (way : List PredStep)
-        → at d bearer ≡ Some e → Contains (targets way e) x
-        → (place : List ℕ) × (way_leads d way bearer place ≡ true) × (at d place ≡ Some x) }
-    ensures all { (d : Doc) (bearer place : List ℕ) (e x : Element) (way : List PredStep)
-        → at d bearer ≡ Some e → way_leads d way bearer place ≡ true → at d place ≡ Some x
+/// The targets of a predicate are exactly the elements that its path selects from the context node. Here the steps of
+/// that path are applied to sets of places, as those of a rule's path are.
+pub fn targets_are_where_paths_lead()
+    ensures reached { (d : Doc) (start : List ℕ) (e x : Element) (way : List PredStep)
+        → at d start ≡ Some e → Contains (targets way e) x
+        → (place : List ℕ) × (path_leads d way start place ≡ true) × (at d place ≡ Some x) }
+    ensures all { (d : Doc) (start place : List ℕ) (e x : Element) (way : List PredStep)
+        → at d start ≡ Some e → path_leads d way start place ≡ true → at d place ≡ Some x
         → Contains (targets way e) x }
 {}
 
@@ -48,14 +48,14 @@ pub fn signs_follow_ancestors()
         → sign d rules place ≡ chain_signs rules d.root [] place }
 {}
 
-/// An element is absent from a view exactly where neither it nor a place inside it is granted.
+/// An element is shown in a view exactly where it, or a place inside it, is granted.
 pub fn elements_show_where_granted()
     ensures { (e : Element) (signs : Signs)
         → is_some ((filter_of e).view signs) ≡ (filter_of e).has_grant signs }
 {}
 
-/// An element has a grant exactly where it, or a place inside it, is granted. So a dummy stands exactly for a denied
-/// element with a granted descendant.
+/// `has_grant` is true of an element exactly where the element, or one inside it, is granted. So a dummy is shown
+/// exactly for a denied element with a granted descendant.
 pub fn grants_are_of_places()
     ensures found { (e : Element) (signs : Signs) → (filter_of e).has_grant signs ≡ true
         → (place : List ℕ) × (x : Element) × (below e place ≡ Some x) × (signs place ≡ Grant) }
@@ -63,32 +63,32 @@ pub fn grants_are_of_places()
         → below e place ≡ Some x → signs place ≡ Grant → (filter_of e).has_grant signs ≡ true }
 {}
 
-/// The text of a document is bytes, and so is that of a view: each number in a name, an attribute or a text is below 256.
+/// The text of a document or a view consists of bytes: each number in a name, an attribute or a text is below 256.
 pub fn texts_are_bytes()
     ensures document { (d : Doc) → is_document d ≡ true → are_bytes (text d) ≡ true }
     ensures view { (d : Doc) → is_view_document d ≡ true → are_bytes (text d) ≡ true }
 {}
 
-/// The places of a document are exactly those where an element stands, and each stands among them once.
+/// `places` lists exactly the places at which there is an element, each of them once.
 pub fn places_are_of_elements()
     ensures { (d : Doc) (place : List ℕ)
         → times place (places d) ≡ (if is_some (at d place) then 1 else 0) }
 {}
 
-/// A document is a view document, in which no dummy stands.
+/// A document is a view document.
 pub fn documents_are_view_documents()
     ensures { (d : Doc) → is_document d ≡ true → is_view_document d ≡ true }
 {}
 
-/// The view of a view document is a view document: dummies apart its names are names, and it is not too deep. So is the
-/// view of a document, and that of a view, as a query gives it.
+/// The view of a view document is a view document. So the view of a document is a view document, and so is the view of
+/// this view, which is the answer of a query.
 pub fn views_are_view_documents()
     ensures { (d v : Doc) (rules : List Rule)
         → is_view_document d ≡ true → view d rules ≡ Some v → is_view_document v ≡ true }
 {}
 
-/// Where a width up to 32 fits, the least one is found, and it is the only one. Where the size doesn't fall as the width
-/// grows, it is the number of binary digits of the size: so a reader knows it from the size.
+/// Where a width up to 32 fits, `least_width` is the least one, and there is only one least width. Where the size never
+/// falls as the width grows, the least width is the number of binary digits of the size, so a reader can compute it.
 pub fn least_widths_are_found()
     ensures found { (size : ℕ → ℕ) (w : ℕ) → w ≤ 32 → size w < 2 ^ w
         → IsLeastWidth size (least_width size) }
@@ -98,7 +98,7 @@ pub fn least_widths_are_found()
         → w ≤ 32 → IsLeastWidth size w → binary_length (size w) ≡ w }
 {}
 
-/// The dictionary sections and the tree sections of three small documents, as they are worked out by hand.
+/// The dictionary sections and the tree sections of three small documents, worked out by hand.
 pub fn streams_of_small_documents()
     ensures text_names { dictionary_section (dictionary one_text) ≡ 0x00 ∷ 0x01 ∷ 0x01 ∷ 0x61 ∷ [] }
     ensures text { tree_section one_text

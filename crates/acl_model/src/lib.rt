@@ -1,4 +1,5 @@
-//! What documents, paths and rules are, and what a rule set lets through: the definitions that every promise of `acl` cites.
+//! What documents, paths and rules are, and which part of a document a list of rules shows. The promises of `acl` are
+//! stated with these definitions.
 #![tactic(auto)]
 
 mod document;
@@ -16,7 +17,7 @@ pub use form::{is_document, is_view_document};
 pub use laws::{
     documents_are_view_documents, elements_show_where_granted, grants_are_of_places,
     least_widths_are_found, paths_select_by_ancestors, places_are_of_elements,
-    signs_follow_ancestors, streams_of_small_documents, targets_stand_where_ways_lead,
+    signs_follow_ancestors, streams_of_small_documents, targets_are_where_paths_lead,
     texts_are_bytes, views_are_view_documents,
 };
 pub use lines::{cut, next_line};

@@ -30,7 +30,7 @@ pub const MOST_DIGITS: u32 = 18;
 /// The most rules of a licence.
 pub const MOST_RULES: usize = 64;
 
-/// The most steps of the paths of a licence in all, and of those of a query.
+/// The most steps of all paths of a licence together, and of the path of a query.
 pub const MOST_STEPS: u32 = 256;
 
 /// The most steps of predicates, counted in the same way.
@@ -45,5 +45,5 @@ pub const MOST_ID_BYTES: usize = 32;
 /// The most bytes of a licence's user.
 pub const MOST_USER_BYTES: usize = 255;
 
-/// The most bytes of keys, of a licence, and of the body of one.
+/// The most bytes of a key file, of a licence, and of the body of a licence.
 pub const MOST_KEY_BYTES: u32 = 131_072;

@@ -1,9 +1,9 @@
-//! Cuts a text at one of its bytes, and takes its lines one at a time. Nothing is copied, and no byte is looked at twice.
+//! Cuts a text at a byte, and returns its lines one at a time. Nothing is copied, and no byte is read twice.
 
 ghost use Rattle.std.specs.Prelude.{◌≡◌, ◌<◌, Some, None, [], ◌∷◌, length, MatchOption, IfSome};
 ghost use Rattle.acl_model.specs.Lines.{cut_at, lines};
 
-/// What stands before and behind the first byte `at`, or `None` where there is none.
+/// What comes before and after the first byte that is `at`, or `None` where there is none.
 #[tactic(auto, using(crate::proofs::LineLaws::cuts))]
 pub fn cut(bytes: &[u8], at: u8) -> Option<(&[u8], &[u8])>
     ensures parts { MatchOption result
@@ -19,7 +19,7 @@ pub fn cut(bytes: &[u8], at: u8) -> Option<(&[u8], &[u8])>
     None
 }
 
-/// The first line, and what stands behind its line feed. `None` where there is no line.
+/// The first line, and what follows its line feed, or `None` where there is no line.
 #[tactic(auto, using(crate::proofs::LineLaws::first_lines))]
 pub fn next_line(bytes: &[u8]) -> Option<(&[u8], &[u8])>
     ensures lines { MatchOption result
@@ -31,7 +31,7 @@ pub fn next_line(bytes: &[u8]) -> Option<(&[u8], &[u8])>
         return None;
     }
     match cut(bytes, b'\n') {
-        Some((line, behind)) => Some((line, behind)),
+        Some((line, after)) => Some((line, after)),
         None => Some((bytes, &[])),
     }
 }

@@ -1,4 +1,4 @@
-//! The form of a name: 1 to 255 bytes, of which the first is no digit, hyphen or full stop.
+//! The form of a name: 1 to 255 bytes, of which the first is not a digit, a hyphen or a full stop.
 
 ghost use Rattle.std.specs.Prelude.{◌≡◌};
 ghost use Rattle.std.specs.List.{list_all};
@@ -13,21 +13,21 @@ pub fn may_begin_name(byte: u8) -> bool
     byte.is_ascii_alphabetic() || byte == b'_' || byte == b':' || byte >= 0x80
 }
 
-/// Whether this byte may stand in a name behind the first.
+/// Whether a name may contain this byte after its first.
 pub fn may_continue_name(byte: u8) -> bool
     ensures { result ≡ continues_name byte }
 {
     may_begin_name(byte) || byte.is_ascii_digit() || byte == b'-' || byte == b'.'
 }
 
-/// Whether each byte may stand in a name behind the first.
+/// Whether a name may contain all these bytes after its first.
 fn all_may_continue(bytes: &[u8]) -> bool
     ensures { result ≡ list_all continues_name bytes.now }
 {
     bytes.iter().all(|byte| may_continue_name(*byte))
 }
 
-/// Whether the bytes have the form of a name, their number left aside.
+/// Whether the bytes have the form of a name, whatever their number.
 fn is_spelled(bytes: &[u8]) -> bool
     ensures { result ≡ is_spelled_as_name bytes.now }
 {

@@ -1,8 +1,8 @@
-//! Paths: the fragment of XPath 1.0 that names the elements a rule speaks of.
+//! Paths: the subset of XPath 1.0 by which rules select elements.
 
 use crate::sequence::{Bytes, Name, Sequence};
 
-/// A path from a virtual root above the document (XPath 1.0, 2, an absolute location path).
+/// An absolute location path (XPath 1.0, 2). Its first step begins at a virtual root above the document.
 #[derive(Debug, Drop)]
 pub struct Path {
     pub steps: Sequence<Step>,
@@ -16,7 +16,7 @@ pub struct Step {
     pub preds: Sequence<Pred>,
 }
 
-/// Where a step goes (XPath 1.0, 2.2).
+/// The axis of a step (XPath 1.0, 2.2).
 #[derive(Debug, Clone, Copy, PartialEq, Eq)]
 pub enum Axis {
     /// `/`: to the children.
@@ -25,7 +25,7 @@ pub enum Axis {
     Descendant,
 }
 
-/// Which elements a step keeps by their name (XPath 1.0, 2.3).
+/// The name test of a step (XPath 1.0, 2.3).
 #[derive(Debug, Drop)]
 pub enum Test {
     /// `*`
@@ -33,25 +33,27 @@ pub enum Test {
     Named(Name),
 }
 
-/// A predicate (XPath 1.0, 2.4): it holds at an element where some value that it reaches from there satisfies it.
+/// A predicate (XPath 1.0, 2.4). It is true for a context node if some value that it reaches from there satisfies its
+/// comparison.
 #[derive(Debug, Drop)]
 pub struct Pred {
-    /// The steps to its targets. Without one, the element that bears the predicate is the only target.
+    /// The steps of the predicate's path, which lead to its targets. Without a step, the context node is the only
+    /// target.
     pub way: Sequence<PredStep>,
-    /// The attribute of the targets whose values count, in place of their string-values.
+    /// The attribute of the targets whose values are compared; without one, the targets' string-values are.
     pub attribute: Option<Name>,
-    /// Without one, it is enough that there is a value.
+    /// The comparison. Without one, any value makes the predicate true.
     pub cmp: Option<Cmp>,
 }
 
-/// A step of a predicate's way.
+/// A step of a predicate's path.
 #[derive(Debug, Drop)]
 pub struct PredStep {
     pub axis: Axis,
     pub test: Test,
 }
 
-/// A comparison of each value with an operand (XPath 1.0, 3.4, in this project's profile).
+/// A comparison of each value with an operand (a profile of XPath 1.0, 3.4).
 #[derive(Debug, Drop)]
 pub struct Cmp {
     pub op: Op,

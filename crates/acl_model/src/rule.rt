@@ -1,4 +1,4 @@
-//! Rules of access: each grants or denies the elements that its path selects, with all that is inside them.
+//! Access rules: each grants or denies the elements that its path selects, with all that is inside them.
 
 use crate::path::Path;
 use crate::sequence::Bytes;
@@ -13,7 +13,7 @@ pub enum Sign {
 /// A rule of a licence.
 #[derive(Debug, Drop)]
 pub struct Rule {
-    /// 1 to 32 bytes, by which a person tells the rules apart.
+    /// 1 to 32 bytes: the name of the rule, for people.
     pub id: Bytes,
     pub sign: Sign,
     pub path: Path,

@@ -1,11 +1,11 @@
-//! A `Vec` that contracts see as the list of its elements, and the three kinds of it that have names.
+//! A `Vec` whose model in contracts is the list of its elements, and three aliases of it.
 
 ghost use Rattle.std.specs.Prelude.{◌≡◌, [], length, ◌==◌, IfOk};
 
 use std::alloc::{AllocError, Global};
 use std::marker::Model;
 
-/// A list in one piece of memory. Contracts see its elements alone, and not where they lie.
+/// A list in one piece of memory. In contracts it is the list of its elements; where they are stored doesn't matter.
 #[derive(Debug, Drop)]
 pub struct Sequence<T> {
     elements: Vec<T>,
@@ -14,11 +14,11 @@ pub struct Sequence<T> {
 /// Any bytes: a text, a raw attribute, a rule's id.
 pub type Bytes = Sequence<u8>;
 
-/// The name of an element or an attribute, as it stands in a document.
+/// The name of an element or an attribute, as it is in a document.
 pub type Name = Sequence<u8>;
 
-/// Where an element stands: from the root down, its number among the element children of its parent, from 1.
-/// The place of the root is empty.
+/// The place of an element: on the path from the root down to it, the number of each element among the element children
+/// of its parent, counted from 1. The place of the root is empty.
 pub type Place = Sequence<u64>;
 
 impl<T> Model for Sequence<T> {
@@ -33,7 +33,7 @@ impl<T> Model for Sequence<T> {
 }
 
 impl<T> Sequence<T> {
-    /// The empty list, which takes no memory.
+    /// The empty list, which allocates no memory.
     pub fn new(alloc: Global) -> Sequence<T>
         ensures { result ≡ [] }
     {
@@ -42,14 +42,14 @@ impl<T> Sequence<T> {
         }
     }
 
-    /// The elements of a `Vec`, in the memory where they lie.
+    /// The elements of a `Vec`, without a copy.
     pub fn from_vec(elements: Vec<T>) -> Sequence<T>
         ensures { result ≡ elements.items }
     {
         Sequence { elements }
     }
 
-    /// The `Vec` again, in the same memory.
+    /// The elements as a `Vec`, without a copy.
     pub fn into_vec(self) -> Vec<T>
         ensures { result.items ≡ self }
     {
@@ -77,7 +77,7 @@ impl<T> Sequence<T> {
 }
 
 impl<T: Copy> Sequence<T> {
-    /// A copy of the elements.
+    /// A copy of the elements. Fails where memory runs out.
     pub fn from_slice(alloc: Global, elements: &[T]) -> Result<Sequence<T>, AllocError>
         ensures { IfOk result (λ s. s ≡ elements.now) }
     {

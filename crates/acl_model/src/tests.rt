@@ -1,11 +1,11 @@
-//! That each public call gives what it is asked for, with ample memory.
+//! Tests of each public call, with enough memory.
 
 use super::*;
 use sqlite_items::Items;
 use std::test::Fail;
 
 #[test]
-fn a_list_gives_back_what_it_took(rt: HostRuntime) -> Result<(), Fail> {
+fn a_list_returns_what_it_was_made_from(rt: HostRuntime) -> Result<(), Fail> {
     let name = Name::from_slice(rt.alloc(), b"Folder")?;
     assert_eq!(rt; name.len(), 6);
     assert!(rt; !name.is_empty());
@@ -42,13 +42,13 @@ fn a_name_has_the_form_of_one(rt: HostRuntime) -> Result<(), Fail> {
 }
 
 #[test]
-fn lines_come_off_the_front_one_at_a_time(rt: HostRuntime) -> Result<(), Fail> {
-    for (text, line, behind) in [
+fn lines_are_read_one_at_a_time(rt: HostRuntime) -> Result<(), Fail> {
+    for (text, line, after) in [
         (b"(a\n\n)a".as_slice(), b"(a".as_slice(), b"\n)a".as_slice()),
         (b"\n)a".as_slice(), b"".as_slice(), b")a".as_slice()),
         (b")a".as_slice(), b")a".as_slice(), b"".as_slice()),
     ] {
-        assert_eq!(rt; next_line(text), Some((line, behind)));
+        assert_eq!(rt; next_line(text), Some((line, after)));
     }
     assert_eq!(rt; next_line(b""), None);
     Ok(())
@@ -63,7 +63,7 @@ fn a_text_is_cut_at_the_first_of_its_bytes(rt: HostRuntime) -> Result<(), Fail> 
 }
 
 #[test]
-fn a_dummy_stands_only_in_a_view(rt: HostRuntime) -> Result<(), Fail> {
+fn only_a_view_has_dummies(rt: HostRuntime) -> Result<(), Fail> {
     for (name, in_document, in_view) in [
         (b"Folder".as_slice(), true, true),
         (b"-".as_slice(), false, true),

@@ -1,9 +1,10 @@
--- How a run can end, as far as the order of work goes: what each outcome speaks of. This project's own.
+-- How a run can end: the end of each outcome, without the outcome's numbers and digests. Contracts on the order of
+-- work use these ends. Defined by this project.
 use Rattle.std.specs.Prelude.{Bool, true, false}
 use Rattle.acl_outcome.specs.declared.outcome.Outcome.{Outcome}
 use Rattle.acl_outcome.specs.declared.outcome.Outcome.TheVariants.{Done, NoMemory, Usage, KeysFault, NoteFault, BadLine, Unsupported, Unbalanced, NoRoot, SecondRoot, TooDeep, NameTooLong, InputTooLong, SourceFault, TooManyAttributes, BadSeal, BadRule, BadLicence, TooManyRules, TooManyStates, BadKeys, BadQuery, BadHeader, WrongRoot, WrongKey, StoreShort, StoreFault, BadFragment, TooManyTags, TooLarge, BadIndex, SinkFault, Stopped}
 
--- what a run is handed: the source of keys or rules, the input, the store, the output, and the sink of notes
+-- the objects that a run uses: the source of keys or rules, the input, the store, the output, and the sink of notes
 pub data Object : Type 0 where
   keys : Object
   input : Object
@@ -11,7 +12,7 @@ pub data Object : Type 0 where
   out : Object
   note : Object
 
--- what a refusal speaks of
+-- what a refusal is about
 pub data Subject : Type 0 where
   a_length : Subject  -- how many bytes a source gives
   a_document : Subject  -- the lines of a document
@@ -25,14 +26,14 @@ pub data Subject : Type 0 where
 
 -- how a run ended
 pub data End : Type 0 where
-  done : End  -- all was written
-  no_memory : End  -- memory was wanting
-  usage : End  -- the words are no command line
+  done : End  -- all of the output was written
+  no_memory : End  -- memory ran out
+  usage : End  -- the arguments are not a valid command line
   fault : Object → End  -- a call on this object failed
   stopped : End  -- a watcher stopped the writing
   refused : Subject → End  -- what was read is refused
 
--- the end of which an outcome speaks
+-- the end of each outcome
 abbrev pub end_of : Outcome → End
 end_of Done = done
 end_of NoMemory = no_memory
@@ -68,7 +69,7 @@ end_of BadIndex = refused a_file
 end_of SinkFault = fault out
 end_of (Stopped watcher line) = stopped
 
--- whether two objects are the same one
+-- whether two objects are the same
 abbrev pub is_same : Object → Object → Bool
 is_same keys keys = true
 is_same keys input = false
@@ -96,7 +97,7 @@ is_same note store = false
 is_same note out = false
 is_same note note = true
 
--- whether an end is a fault of this object
+-- whether the end is a fault of this object
 abbrev pub is_fault_of : Object → End → Bool
 is_fault_of x done = false
 is_fault_of x no_memory = false

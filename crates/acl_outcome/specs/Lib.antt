@@ -1,3 +1,3 @@
 pub mod Ends
-pub mod Fields
 pub mod Outcome
+pub mod inside

@@ -1,4 +1,4 @@
--- The number, the name, the fields and the line of each outcome. This project's own.
+-- The number, the name, the fields and the line of each outcome. Defined by this project.
 use Rattle.std.specs.Prelude.{ℕ, List, [], ◌∷◌, ◌++◌, map, codes, decimal}
 use Rattle.std.specs.List.{concat}
 use Rattle.hex.specs.Hex.{encode_lower}
@@ -7,7 +7,7 @@ use Rattle.acl_outcome.specs.Ends.{End, done, no_memory, usage, fault, stopped, 
 use Rattle.acl_outcome.specs.declared.outcome.Outcome.{Outcome}
 use Rattle.acl_outcome.specs.declared.outcome.Outcome.TheVariants.{Done, NoMemory, Usage, KeysFault, NoteFault, BadLine, Unsupported, Unbalanced, NoRoot, SecondRoot, TooDeep, NameTooLong, InputTooLong, SourceFault, TooManyAttributes, BadSeal, BadRule, BadLicence, TooManyRules, TooManyStates, BadKeys, BadQuery, BadHeader, WrongRoot, WrongKey, StoreShort, StoreFault, BadFragment, TooManyTags, TooLarge, BadIndex, SinkFault, Stopped}
 
--- the number of an outcome, with which the program ends
+-- the number of an outcome, which is the program's exit status
 abbrev pub status_of : Outcome → ℕ
 status_of Done = 0
 status_of NoMemory = 1
@@ -43,7 +43,7 @@ status_of BadIndex = 38
 status_of SinkFault = 40
 status_of (Stopped watcher line) = 41
 
--- the name of an outcome, as its line has it
+-- the name of an outcome, as it is in the outcome's line
 abbrev pub name_of : Outcome → List ℕ
 name_of Done = codes "Done"
 name_of NoMemory = codes "NoMemory"
@@ -79,20 +79,20 @@ name_of BadIndex = codes "BadIndex"
 name_of SinkFault = codes "SinkFault"
 name_of (Stopped watcher line) = codes "Stopped"
 
--- a field of an outcome: its name, and its value as the line has it
+-- a field of an outcome: its name, and the text of its value
 pub record Field : Type 0 where
   pub name : List ℕ
   pub text : List ℕ
 
--- a number, in decimal
+-- a field whose value is a number, in decimal
 abbrev pub number : List ℕ → ℕ → Field
 number name n = record { name = name; text = decimal n }
 
--- a digest, in lower-case hexadecimal
+-- a field whose value is a digest or a key check, in lower-case hexadecimal
 abbrev pub digest : List ℕ → List ℕ → Field
 digest name bytes = record { name = name; text = encode_lower bytes }
 
--- the fields of an outcome, in the order in which its line has them
+-- the fields of an outcome, in the order that they have in its line
 abbrev pub fields_of : Outcome → List Field
 fields_of Done = []
 fields_of NoMemory = []
@@ -128,19 +128,19 @@ fields_of BadIndex = []
 fields_of SinkFault = []
 fields_of (Stopped watcher line) = number (codes "watcher") watcher ∷ number (codes "line") line ∷ []
 
--- a space, the field's name, `=`, and its value
+-- the text of a field: a space, the field's name, `=`, and its value
 unfoldable pub field_text : Field → List ℕ
 field_text field = codes " " ++ (field.name ++ (codes "=" ++ field.text))
 
--- `acl: `, the number of an outcome, a space, and its name
+-- the start of an outcome's line: `acl: `, the number of the outcome, a space, and its name
 unfoldable pub head_of : Outcome → List ℕ
 head_of outcome = codes "acl: " ++ (decimal (status_of outcome) ++ (codes " " ++ name_of outcome))
 
--- the line of an outcome that is not done: what stands at its head, its fields, and a line feed
+-- the line of an outcome other than `Done`: its start, its fields, and a line feed
 abbrev pub line_of : Outcome → List ℕ
 line_of outcome = head_of outcome ++ (concat (map field_text (fields_of outcome)) ++ (line_feed ∷ []))
 
--- the line of an outcome that ends a run so: what is done has none
+-- the line of an outcome with this end, which is empty for the end `done`
 abbrev pub line_at : End → Outcome → List ℕ
 line_at done outcome = []
 line_at no_memory outcome = line_of outcome
@@ -149,6 +149,6 @@ line_at (fault x) outcome = line_of outcome
 line_at stopped outcome = line_of outcome
 line_at (refused subject) outcome = line_of outcome
 
--- The line of an outcome, which is empty for what is done.
+-- the line of an outcome, which is empty for `Done`
 abbrev pub outcome_line : Outcome → List ℕ
 outcome_line outcome = line_at (end_of outcome) outcome

@@ -1,4 +1,4 @@
-//! How a run of `acl` ends, with the number and the line of each outcome.
+//! The outcomes of a run of `acl`, each with its number and its line.
 #![tactic(auto)]
 
 mod outcome;

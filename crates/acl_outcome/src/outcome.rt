@@ -1,38 +1,38 @@
-//! How a run ends: done, or the one cause why not. Each cause has a number, which is the program's status, and a line.
-//! The causes of commands that aren't built yet stand here too; no run answers them yet, as its clause `order` says.
+//! How a run ends: done, or the first cause why not. Each cause has a number, which is the program's exit status, and a
+//! line. Some causes belong to commands that aren't built yet. No run gives one of these, as its clause `order` says.
 
 ghost use Rattle.std.specs.Prelude.{◌≡◌};
 ghost use Rattle.acl_outcome.specs.Outcome.{status_of};
 
-/// How a run ended. Lines are counted from 1.
+/// How a run ended. Lines are counted from 1, byte offsets from 0.
 #[derive(Clone, Copy, Debug, PartialEq, Eq)]
 pub enum Outcome {
-    /// All was written.
+    /// All of the output was written.
     Done,
-    /// There was no memory. Nothing was written.
+    /// Memory ran out. Nothing was written.
     NoMemory,
-    /// The words are no command line.
+    /// The arguments are not a valid command line.
     Usage,
     /// A read of the keys, or of the rules, failed.
     KeysFault,
-    /// A write of a note failed, after the whole of the output was written.
+    /// A write to the sink of notes failed, after the whole output was written.
     NoteFault,
-    /// A line of the input is not of the form of any line of a document, or stands behind the line `C`.
+    /// A line of the input doesn't have the form of any line of a document, or comes after the line `C`.
     BadLine {
         line: u32,
     },
-    /// A line begins with a letter of a known kind of line that no document here has.
+    /// A line is of a kind that `onsgmls` writes and documents here don't have. `kind` is its first byte.
     Unsupported {
         line: u32,
         kind: u8,
     },
-    /// A line can't stand where it stands, or an element is closed by another name or not at all.
+    /// A line isn't allowed at its position, or an element is closed by another name or not at all.
     Unbalanced {
         line: u32,
     },
     /// The input has no element.
     NoRoot,
-    /// A second element begins behind the end of the root.
+    /// A second element begins after the end of the root.
     SecondRoot {
         line: u32,
     },
@@ -54,72 +54,72 @@ pub enum Outcome {
     TooManyAttributes {
         line: u32,
     },
-    /// The seal that is given is not the one that is made of the body and the key.
+    /// The seal in the licence, `given`, is not the seal of its body under the key, `made`.
     BadSeal {
         given: [u8; 32],
         made: [u8; 32],
     },
-    /// The path of the rule in this line is refused, at this place of it, from 0.
+    /// The path of the rule in this line is refused, at this byte offset in the path.
     BadRule {
         line: u32,
         at: u32,
     },
-    /// A line of a licence is missing or not of its form.
+    /// A line of a licence is missing or malformed.
     BadLicence {
         line: u32,
     },
     /// A licence has more than 64 rules.
     TooManyRules,
-    /// The rules of a licence together, or a query, have too many steps or predicates.
+    /// The rules of a licence together, or a query, have too many steps, tests in predicates, or predicates.
     TooManyStates,
-    /// A line of the keys is missing or not of its form.
+    /// A line of the keys is missing or malformed.
     BadKeys {
         line: u32,
     },
-    /// The path of a query is refused, at this place of it, from 0.
+    /// The path of a query is refused, at this byte offset in it.
     BadQuery {
         at: u32,
     },
-    /// The first bytes of the store are no header of a file.
+    /// The first bytes of the store are not the header of a file.
     BadHeader,
-    /// The digest that is made of the store's root is not the one that the licence wants.
+    /// The root computed from the store, `made`, is not the one that the licence names, `want`.
     WrongRoot {
         want: [u8; 32],
         made: [u8; 32],
     },
-    /// The key of a document has not made the check that the store has.
+    /// The key check of the document key, `made`, is not the one in the store's header, `want`.
     WrongKey {
         want: [u8; 16],
         made: [u8; 16],
     },
-    /// The store's bytes ended at this place, before all that were asked for.
+    /// The store's bytes ended at this byte offset, before all that were asked for.
     StoreShort {
         at: u64,
     },
     /// A read of the store failed.
     StoreFault,
-    /// A fragment of the store, counted from 0, has not the digest that is wanted.
+    /// The digest computed from a fragment of the store, `made`, is not `want`. Fragments are counted from 0.
     BadFragment {
         index: u32,
         want: [u8; 32],
         made: [u8; 32],
     },
-    /// A document to be encoded has more than 256 names.
+    /// A document to be encoded has more than 256 distinct names.
     TooManyTags,
     /// The encoding of a document is larger than a file may be.
     TooLarge,
-    /// The store's digests are right, and its bytes are the encoding of no document.
+    /// The store's digests are right, but its bytes aren't the encoding of a document.
     BadIndex,
-    /// A write of the output failed. A front part of it was written.
+    /// A write of the output failed. A prefix of it was written.
     SinkFault,
-    /// This watcher, counted from 0, stopped the output before this line of it.
+    /// A watcher stopped the output before this line. Watchers are counted from 0.
     Stopped {
         watcher: u32,
         line: u64,
     },
 }
 
-/// The number of an outcome, with which the program ends.
+/// The number of an outcome, which is the program's exit status.
 pub fn status(outcome: &Outcome) -> u8
     ensures { result ≡ status_of outcome.now }
 {

@@ -1,17 +1,17 @@
-//! The line of an outcome, written piece by piece, without memory.
+//! Writes the line of an outcome piece by piece. No memory is allocated.
 
 ghost use Rattle.std.specs.Prelude.{◌≡◌, [], ◌∷◌, ◌++◌, map, codes, IsOk};
 ghost use Rattle.std.specs.List.{concat};
-ghost use Rattle.acl_outside.specs.Writing.{Writes};
+ghost use Rattle.acl_outside.specs.WrittenText.{Writes};
 ghost use Rattle.acl_outcome.specs.Outcome.{name_of, fields_of, field_text, head_of, line_of, outcome_line};
-ghost use Rattle.acl_outcome.specs.Fields.{meant_field, meant_fields};
+ghost use Rattle.acl_outcome.specs.inside.Fields.{meant_field, meant_fields};
 ghost use Rattle.acl_outcome.specs.Outcome as word;
 
 use crate::outcome::{Outcome, status};
 use acl_outside::{Failed, Sink, write_piece, write_pieces};
 use itoa::Buffer;
 
-/// What stands behind a field's name and `=`.
+/// The value of a field, which follows the field's name and `=`.
 #[derive(Clone, Copy)]
 enum Value<'a> {
     Number(u64),
@@ -19,7 +19,7 @@ enum Value<'a> {
     Check(&'a [u8; 16]),
 }
 
-/// A field of an outcome.
+/// A field of an outcome: its name and its value.
 #[derive(Clone, Copy)]
 struct Field<'a> {
     name: &'static [u8],
@@ -35,6 +35,7 @@ enum Fields<'a> {
     Three(Field<'a>, Field<'a>, Field<'a>),
 }
 
+/// A field whose value is a number, to be written in decimal.
 fn number(name: &'static [u8], value: u64) -> Field<'static>
     ensures { meant_field result ≡ word.number name.now value }
 {
@@ -44,6 +45,7 @@ fn number(name: &'static [u8], value: u64) -> Field<'static>
     }
 }
 
+/// A field whose value is a digest, to be written in lower-case hexadecimal.
 fn digest<'a>(name: &'static [u8], bytes: &'a [u8; 32]) -> Field<'a>
     ensures { meant_field result ≡ word.digest name.now bytes.now }
 {
@@ -53,6 +55,7 @@ fn digest<'a>(name: &'static [u8], bytes: &'a [u8; 32]) -> Field<'a>
     }
 }
 
+/// A field whose value is a key check, to be written in lower-case hexadecimal.
 fn check<'a>(name: &'static [u8], bytes: &'a [u8; 16]) -> Field<'a>
     ensures { meant_field result ≡ word.digest name.now bytes.now }
 {
@@ -62,7 +65,7 @@ fn check<'a>(name: &'static [u8], bytes: &'a [u8; 16]) -> Field<'a>
     }
 }
 
-/// The name of an outcome, as its line has it.
+/// The name of an outcome, as it is in the outcome's line.
 fn name(outcome: &Outcome) -> &'static [u8]
     ensures { result.now ≡ name_of outcome.now }
 {
@@ -172,6 +175,7 @@ fn write_named<K: Sink>(name: &[u8], text: &[u8], sink: &mut K) -> Result<(), Fa
     write_pieces(sink, &[b" ", name, b"=", text])
 }
 
+/// Writes a field whose value is a digest.
 fn write_digest<K: Sink>(name: &[u8], bytes: &[u8; 32], sink: &mut K) -> Result<(), Failed>
     ensures { Writes K.written K.missed K.settled K.faults result sink.old sink.new
         (field_text (word.digest name.now bytes.now)) }
@@ -181,6 +185,7 @@ fn write_digest<K: Sink>(name: &[u8], bytes: &[u8; 32], sink: &mut K) -> Result<
     write_named(name, &digits, sink)
 }
 
+/// Writes a field whose value is a key check.
 fn write_check<K: Sink>(name: &[u8], bytes: &[u8; 16], sink: &mut K) -> Result<(), Failed>
     ensures { Writes K.written K.missed K.settled K.faults result sink.old sink.new
         (field_text (word.digest name.now bytes.now)) }
@@ -190,6 +195,7 @@ fn write_check<K: Sink>(name: &[u8], bytes: &[u8; 16], sink: &mut K) -> Result<(
     write_named(name, &digits, sink)
 }
 
+/// Writes a space, and a field with its value in decimal or hexadecimal.
 fn write_field<K: Sink>(field: Field<'_>, sink: &mut K) -> Result<(), Failed>
     ensures { Writes K.written K.missed K.settled K.faults result sink.old sink.new
         (field_text (meant_field field.entry)) }
@@ -215,6 +221,7 @@ fn write_each<K: Sink>(fields: &[Field<'_>], sink: &mut K) -> Result<(), Failed>
     Ok(())
 }
 
+/// Writes all fields of an outcome.
 fn write_fields<K: Sink>(outcome: &Outcome, sink: &mut K) -> Result<(), Failed>
     ensures { Writes K.written K.missed K.settled K.faults result sink.old sink.new
         (concat (map field_text (fields_of outcome.now))) }
@@ -227,7 +234,7 @@ fn write_fields<K: Sink>(outcome: &Outcome, sink: &mut K) -> Result<(), Failed>
     }
 }
 
-/// Writes all of the line but its fields and its line feed.
+/// Writes the start of the line: `acl: `, the number, a space and the name.
 #[tactic(auto, unfolding(crate::specs::Outcome::head_of))]
 fn write_head<K: Sink>(outcome: &Outcome, sink: &mut K) -> Result<(), Failed>
     ensures { Writes K.written K.missed K.settled K.faults result sink.old sink.new
@@ -238,6 +245,7 @@ fn write_head<K: Sink>(outcome: &Outcome, sink: &mut K) -> Result<(), Failed>
     write_pieces(sink, &[b"acl: ", number, b" ", name(outcome)])
 }
 
+/// Writes the line of an outcome that is not `Done`.
 fn write_line<K: Sink>(outcome: &Outcome, sink: &mut K) -> Result<(), Failed>
     ensures { Writes K.written K.missed K.settled K.faults result sink.old sink.new
         (line_of outcome.now) }
@@ -247,7 +255,7 @@ fn write_line<K: Sink>(outcome: &Outcome, sink: &mut K) -> Result<(), Failed>
     write_piece(sink, b"\n")
 }
 
-/// Writes the line of an outcome, with its line feed. What is done has no line, and nothing is asked of the sink.
+/// Writes the line of an outcome, with its line feed. `Done` has no line, and for it no call on the sink is made.
 #[tactic(auto, using(crate::proofs::Lines::line_unless_done))]
 pub fn outcome_text<K: Sink>(outcome: &Outcome, sink: &mut K) -> Result<(), Failed>
     ensures written { Writes K.written K.missed K.settled K.faults result sink.old sink.new

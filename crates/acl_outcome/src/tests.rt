@@ -1,4 +1,4 @@
-//! Each outcome with its number and its line, as the table of outcomes has them.
+//! Each outcome has the number and the line that the table of outcomes in docs/FORMATS.md gives it.
 
 use super::*;
 use acl_outside::MemSink;

@@ -1,4 +1,4 @@
--- How the reads of one loop join to one.
+-- How the reads of one loop are one read.
 use Rattle.std.proofs.Common.{◌≡◌, List, ℕ, ◌++◌, ◌+◌, ◌-◌, ◌≤◌, length, take, Option, Some, None, append_assoc, ap, sym, rules}
 use Rattle.std.proofs.lemmas.Slice.{overwrites}
 use Rattle.std.proofs.lemmas.List.{take-append-le, length-take-le}
@@ -20,20 +20,20 @@ Consumes-kept (Some al) None c xs zs first kept same = absurd first
 Consumes-kept (Some al) (Some bl) None xs zs first kept same = absurd kept
 Consumes-kept (Some al) (Some bl) (Some cl) xs zs first kept same = rw (first, kept, same)
 
--- the bytes at the front, after a part behind them was overwritten
-pub take-behind : (room part : List ℕ) (at n : ℕ) → at ≤ length room → n ≤ length part
+-- the first bytes, after a part that follows them was overwritten
+pub take-after : (room part : List ℕ) (at n : ℕ) → at ≤ length room → n ≤ length part
     → take (at + n) (put_mid at (length room - at) room part) ≡ take at room ++ take n part
-take-behind room part at n within fits =
-    let front : length (take at room) ≡ at = length-take-le at room within in
-    rw (ap (λ k. take (k + n) (put_mid at (length room - at) room part)) (sym front))
+take-after room part at n within fits =
+    let prefix : length (take at room) ≡ at = length-take-le at room within in
+    rw (ap (λ k. take (k + n) (put_mid at (length room - at) room part)) (sym prefix))
     (rw (take-append-add (take at room) _ n, take-append-le n part _ fits))
 
--- a read into the part of the room that is behind the first bytes
-pub Consumes-behind : (a b c : Option (List ℕ)) (room part : List ℕ) (at n : ℕ) → at ≤ length room → n ≤ length part
+-- a read into the part of the buffer after the first bytes
+pub Consumes-after : (a b c : Option (List ℕ)) (room part : List ℕ) (at n : ℕ) → at ≤ length room → n ≤ length part
     → Consumes a b (take at room) → Consumes b c (take n part)
     → Consumes a c (take (at + n) (put_mid at (length room - at) room part))
-Consumes-behind a b c room part at n within fits first next =
-    Consumes-more a b c _ _ _ first next (take-behind room part at n within fits)
+Consumes-after a b c room part at n within fits first next =
+    Consumes-more a b c _ _ _ first next (take-after room part at n within fits)
 
 -- a read into that part which failed
 pub Consumes-unread : (a b c : Option (List ℕ)) (room part : List ℕ) (at : ℕ) → at ≤ length room

@@ -1,13 +1,13 @@
--- How the writes of one text join to one, whole or cut off where one fails.
+-- How the writes of the parts of a text are one write of the text, whole or cut off where a part fails.
 --
--- A function that writes a text by several calls closes by `search chain` at each failed `?` behind the
--- first and at its end, where its text is the calls' texts joined by `++`, grouped to the right. A loop
--- over the parts of a list has `Remains` as its invariant, and closes by `search loop` at its failed `?`.
+-- A function that writes a text by several calls closes by `search chain` at each failed `?` after the first and at its
+-- end. Its text has to be the calls' texts joined by `++`, grouped to the right. A loop over the parts of a list has
+-- `Remains` as its invariant, and closes by `search loop` at its failed `?`.
 use Rattle.std.proofs.Common.{◌≡◌, ℕ, ◌+◌, ◌<◌, List, [], ◌∷◌, ◌++◌, length, drop, map, get_or, Option, Result, Ok, Err, Continue, Break, IsErr, is_some, refl, sym, append-nil, add-one, ◌∙◌, arith, true≢false}
 use Rattle.std.proofs.Math.Seq.{drop-cons}
 use Rattle.std.specs.List.{concat}
 use Rattle.std.specs.Result.{result_from_control_flow}
-use Rattle.acl_outside.specs.Writing.{Writes}
+use Rattle.acl_outside.specs.WrittenText.{Writes}
 use Rattle.acl_outside.proofs.Leaving.{Leaves, Leaves-all, Leaves-piece, Leaves-nothing, Leaves-part, Leaves-missing}
 
 -- of all that was to be written since `old`, the rest is still to come; no fault was counted
@@ -74,15 +74,15 @@ module _ {S : Type 0} {written : S → Option (List ℕ)} {missed : S → Option
         tells_settled = put.tells_settled ∙ before.tells_settled;
       }
 
--- what becomes of the rest becomes of all
+-- the outcome of the rest is the outcome of all
 pub Writes-rest : {S T E : Type 0} {written : S → Option (List ℕ)} {missed : S → Option ℕ} {settled : S → Option (List ℕ)} {faults : S → ℕ}
     {old mid new : S} {r : Result T E} {rest all : List ℕ} → Remains written missed settled faults old mid rest all
     → Writes written missed settled faults r mid new rest → Writes written missed settled faults r old new all
 Writes-rest {r = Ok t} {rest = rest} before put = Writes-all (Remains-next [] (sym (append-nil rest)) before put)
 Writes-rest {r = Err e} {rest = rest} before put = Writes-failed [] refl (sym (append-nil rest)) before put
 
--- ---- A call with a `?` behind it: it answered `q`, and `b` says how the `?` goes on. What it wrote
--- is `p`, another spelling of the piece.
+-- ---- A call with a `?` after it: it answered `q`, and `b` says how the `?` goes on. It wrote `p`, which is equal to
+-- the piece.
 
 module _ {S T E : Type 0} {written : S → Option (List ℕ)} {missed : S → Option ℕ} {settled : S → Option (List ℕ)} {faults : S → ℕ} {old new : S}
     {q : Result T E} {p piece : List ℕ} where
@@ -94,12 +94,12 @@ module _ {S T E : Type 0} {written : S → Option (List ℕ)} {missed : S → Op
       → p ≡ piece → Writes {T = T} written missed settled faults (Err x.0) old new piece
   failed put answer flow same = rw (answer, flow, same) at put
 
-  -- the last piece, whose answer is handed on
+  -- the last piece, whose answer is returned
   pub Writes-last : Writes written missed settled faults q old new p → p ≡ piece → Writes written missed settled faults q old new piece
   Writes-last put same = rw same at put
 
   module _ {r : Result T E} where
-    -- a good piece, and then what becomes of the others
+    -- a good piece, and then the outcome of the others
     pub Writes-then : {last : S} {more : List ℕ} {b : _} {t : T} → Writes written missed settled faults q old new p
         → q ≡ result_from_control_flow b → b ≡ Continue t → p ≡ piece
         → Writes written missed settled faults r new last more → Writes written missed settled faults r old last (piece ++ more)
@@ -141,7 +141,7 @@ concat-next text parts i other within = rw (add-one, drop-cons parts i other wit
 
 module _ {S T E X : Type 0} {written : S → Option (List ℕ)} {missed : S → Option ℕ} {settled : S → Option (List ℕ)} {faults : S → ℕ} {old mid new : S}
     {q : Result T E} {all : List ℕ} (text : X → List ℕ) (parts : List X) (i : ℕ) (other : X) where
-  -- a part comes off the front
+  -- a part is written: the rest is what follows it
   pub Remains-part : {b : _} {t : T} {p : List ℕ} {part : X} → Remains written missed settled faults old mid (concat (map text (drop i parts))) all
       → Writes written missed settled faults q mid new p → q ≡ result_from_control_flow b → b ≡ Continue t
       → i < length parts → part ≡ get_or parts i other → p ≡ text part

@@ -1,4 +1,4 @@
--- How what calls take of a source joins, where each takes at most so many bytes.
+-- How the bytes that several calls take of a source add up, where each takes at most so many.
 use Rattle.std.proofs.Common.{◌≡◌, ℕ, ◌+◌, ◌-◌, ◌≤◌, List, length, drop, Option, Some, None, sym, ap, ◌∙◌, arith, length-append}
 use Rattle.std.proofs.Math.Seq.{drop-append_seam}
 use Rattle.std.proofs.lemmas.List.{drop-drop, length-drop}
@@ -52,9 +52,9 @@ TakesAtMost-then first next most (Some al) (Some bl) (Some cl) within took more 
     )
 
 -- bytes that were consumed, and then others taken
-pub TakesAtMost-behind : (next most : ℕ) (a b c : Option (List ℕ)) (xs : List ℕ)
+pub TakesAtMost-after : (next most : ℕ) (a b c : Option (List ℕ)) (xs : List ℕ)
     → length xs + next ≤ most → Consumes a b xs → TakesAtMost next b c → TakesAtMost most a c
-TakesAtMost-behind next most a b c xs within took more =
+TakesAtMost-after next most a b c xs within took more =
     TakesAtMost-then (length xs) next most a b c within
     (TakesAtMost-consumed (length xs) a b xs took (omega arith)) more
 
@@ -62,7 +62,7 @@ TakesAtMost-behind next most a b c xs within took more =
 pub TakesAtMost-before_kept : (most : ℕ) (a b c : Option (List ℕ)) (xs : List ℕ)
     → length xs ≤ most → Consumes a b xs → Keeps b c → TakesAtMost most a c
 TakesAtMost-before_kept most a b c xs within took kept =
-    TakesAtMost-behind 0 most a b c xs (omega arith) took (TakesAtMost-kept 0 b c kept)
+    TakesAtMost-after 0 most a b c xs (omega arith) took (TakesAtMost-kept 0 b c kept)
 
 pub ruleset taking = (
   TakesAtMost-consumed,
@@ -70,6 +70,6 @@ pub ruleset taking = (
   TakesAtMost-kept,
   TakesAtMost-more,
   TakesAtMost-then,
-  TakesAtMost-behind,
+  TakesAtMost-after,
   TakesAtMost-before_kept,
 )

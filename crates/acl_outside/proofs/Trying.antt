@@ -1,7 +1,7 @@
 -- How the reads of one loop count together.
 use Rattle.std.proofs.Common.{◌≡◌, ℕ, ◌+◌, Option, Some, None, Ok, Err, inl, ◌∙◌, arith}
 use Rattle.std.specs.declared.io.Error.{Error}
-use Rattle.acl_outside.specs.Tries.{Tries, IsCutOff, CountsTry, OneFailed}
+use Rattle.acl_outside.specs.inside.Tries.{Tries, IsCutOff, CountsTry, OneFailed}
 
 -- where the reads are told: so many more were made, and none failed
 abbrev pub Passed : Option Tries → Option Tries → ℕ → Type 0
@@ -16,7 +16,7 @@ Passed-given (Some al) None c turn n before one = absurd before
 Passed-given (Some al) (Some bl) None turn n before one = absurd one
 Passed-given (Some al) (Some bl) (Some cl) turn n before one = (omega (arith, before.0, one.0), one.1 ∙ before.1)
 
--- one that a signal cut off
+-- one that a signal interrupted
 pub Passed-cut_off : (a b c : Option Tries) (turn : ℕ) (e : Error) → IsCutOff e → Passed a b turn → CountsTry b c (Err e) → Passed a c (turn + 1)
 Passed-cut_off None b c turn e signal before one = tt
 Passed-cut_off (Some al) None c turn e signal before one = absurd before

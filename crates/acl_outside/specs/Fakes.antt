@@ -1,21 +1,21 @@
--- What a caller sees of the sources, sinks and stores in memory. This project's own.
+-- The models of the sources, sinks and stores in memory, and of the recorder. Defined by this project.
 use Rattle.std.specs.Prelude.{ℕ, ◌+◌, ◌<◌, ◌≤◌, List, length, map}
 use Rattle.std.specs.List.{concat}
 use Rattle.acl_outside.specs.Outside.{StoreRead}
 
--- a source in memory: the bytes to come, the most that a read gives, the numbers of the reads that
--- fail, the number of the next read, from 0, and how many have failed
-pub record Supply : Type 0 where
+-- A source in memory: the bytes to come, the most that a read gives, and the numbers of the reads that fail. Then the
+-- number of the next read (from 0), and how many reads have failed.
+pub record MemSourceModel : Type 0 where
   pub left : List ℕ
   pub piece : ℕ
   pub fails : List ℕ
   pub calls : ℕ
   pub faults : ℕ
 
--- a sink in memory: the bytes taken, how many bytes it has room for in all, the numbers of the writes
--- that fail, the number of the next write, from 0, how many bytes the last failed write did not take,
--- the bytes taken up to the last good write of an empty piece, and how many writes have failed
-pub record Tray : Type 0 where
+-- A sink in memory: the bytes taken, how many bytes it has room for in all, the numbers of the writes that fail, and
+-- the number of the next write (from 0). Then how many bytes the last failed write did not take, the bytes taken up to
+-- the last good write of an empty piece, and how many writes have failed.
+pub record MemSinkModel : Type 0 where
   pub written : List ℕ
   pub room : ℕ
   pub fails : List ℕ
@@ -24,16 +24,16 @@ pub record Tray : Type 0 where
   pub settled : List ℕ
   pub faults : ℕ
 
--- a store in memory: the bytes held, the numbers of the reads that fail, the number of the next read,
--- from 0, and how many have failed
-pub record Shelf : Type 0 where
+-- a store in memory: the bytes held, the numbers of the reads that fail, the number of the next read (from 0), and how
+-- many reads have failed
+pub record MemStoreModel : Type 0 where
   pub holds : List ℕ
   pub fails : List ℕ
   pub calls : ℕ
   pub faults : ℕ
 
--- a store that notes the good reads of another one: that store, the reads noted, for how many reads
--- and for how many of their bytes it has room in all, and how many reads have failed
+-- a recorder: the store whose good reads it notes, these reads, how many reads and how many of their bytes it has room
+-- for in all, and how many reads have failed
 pub record Recording (Inner : Type 0) : Type 0 where
   pub inner : Inner
   pub reads : List StoreRead
@@ -45,7 +45,7 @@ pub record Recording (Inner : Type 0) : Type 0 where
 abbrev pub bytes_of : List StoreRead → List ℕ
 bytes_of reads = concat (map (λ read. read.bytes) reads)
 
--- there is room to note one more read, and as many bytes as it asks for
+-- there is room to note one more read, and for `asked` more bytes
 abbrev pub HasRoom : {Inner : Type 0} → Recording Inner → ℕ → Type 0
 HasRoom recording asked =
     (length recording.reads < recording.read_room)

@@ -1,6 +1,5 @@
-pub mod Adapters
 pub mod Fakes
 pub mod Noted
 pub mod Outside
-pub mod Tries
-pub mod Writing
+pub mod WrittenText
+pub mod inside

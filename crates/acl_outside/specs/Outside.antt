@@ -1,8 +1,9 @@
--- The words that the contracts of sources, sinks and stores share. What their members tell is an
--- `Option`: None claims nothing, and what is told stays told. This project's own.
+-- Definitions that the contracts of sources, sinks and stores share. What an object tells (what contracts can see of
+-- it) is an `Option`. None claims nothing; where it was Some before a call, it is Some after it. Defined by this
+-- project.
 use Rattle.std.specs.Prelude.{◌≡◌, ℕ, ◌+◌, ◌-◌, ◌^◌, ◌<◌, ◌≤◌, ◌⊎◌, ◌++◌, Bool, true, false, List, [], ◌∷◌, Option, Some, None, length, take, drop}
 
--- the count is greater than at the start of the call, or stands at the last value of u64
+-- the count is greater than at the start of the call, or is the last value of u64
 abbrev pub Rose : ℕ → ℕ → Type 0
 Rose old new = (old < new) ⊎ (new ≡ 2 ^ 64 - 1)
 
@@ -14,19 +15,19 @@ NotFallen old new = old ≤ new
 abbrev pub SameCount : ℕ → ℕ → Type 0
 SameCount old new = new ≡ old
 
--- where the object's fault is answered its count rose, and elsewhere it is as it was
+-- where the answer is a fault of the object (`true`) its count rose, and elsewhere it is as it was
 abbrev pub CountsWhere : Bool → ℕ → ℕ → Type 0
 CountsWhere true old new = Rose old new
 CountsWhere false old new = new ≡ old
 
--- where the bytes to come are told: at most so many of them were taken, from their front
+-- where the bytes to come are told: at most `most` of them were taken, from their start
 abbrev pub TakesAtMost : ℕ → Option (List ℕ) → Option (List ℕ) → Type 0
 TakesAtMost most None new = Unit {0}
 TakesAtMost most (Some before) None = ⊥
 TakesAtMost most (Some before) (Some after) =
     (length before ≤ length after + most) × (after ≡ drop (length before - length after) before)
 
--- the bytes grew by a front part of the piece
+-- the bytes grew by a prefix of the piece
 abbrev pub AppendsPart : Option (List ℕ) → Option (List ℕ) → List ℕ → Type 0
 AppendsPart None new piece = Unit {0}
 AppendsPart (Some before) None piece = ⊥
@@ -39,7 +40,7 @@ AreAllSettled None taken = Unit {0}
 AreAllSettled (Some settled) None = Unit {0}
 AreAllSettled (Some settled) (Some taken) = settled ≡ taken
 
--- where both are told: with the bytes that are missing the piece would be whole
+-- where all are told: the appended bytes and the missing ones are together as many as the piece has
 abbrev pub Misses : Option (List ℕ) → Option (List ℕ) → Option ℕ → List ℕ → Type 0
 Misses None new missing piece = Unit {0}
 Misses (Some before) None missing piece = Unit {0}
@@ -47,7 +48,7 @@ Misses (Some before) (Some after) None piece = Unit {0}
 Misses (Some before) (Some after) (Some missing) piece =
     length after + missing ≡ length before + length piece
 
--- where both are told: all is longer than what was appended, by the missing bytes at least
+-- where all are told: `all` is longer than what was appended by at least `missing` bytes
 abbrev pub MissesAtLeast : Option (List ℕ) → Option (List ℕ) → Option ℕ → List ℕ → Type 0
 MissesAtLeast None new missing all = Unit {0}
 MissesAtLeast (Some before) None missing all = Unit {0}
@@ -55,7 +56,7 @@ MissesAtLeast (Some before) (Some after) None all = Unit {0}
 MissesAtLeast (Some before) (Some after) (Some missing) all =
     length after + missing ≤ length before + length all
 
--- a good read of a store: its place, how many bytes were asked for, and the bytes that came
+-- a good read of a store (one that succeeded): its byte offset, how many bytes were asked for, and the bytes that came
 pub record StoreRead : Type 0 where
   pub at : ℕ
   pub asked : ℕ
@@ -67,7 +68,7 @@ Serves None new read = Unit {0}
 Serves (Some before) None read = ⊥
 Serves (Some before) (Some after) read = after ≡ before ++ (read ∷ [])
 
--- the good reads are those of before
+-- the good reads are those before the call
 abbrev pub KeepsServed : Option (List StoreRead) → Option (List StoreRead) → Type 0
 KeepsServed None new = Unit {0}
 KeepsServed (Some before) None = ⊥

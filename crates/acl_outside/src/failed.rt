@@ -1,5 +1,5 @@
-//! The one answer of an object of the outside that could not do what it was asked.
+//! The error of a source, a sink or a store.
 
-/// The object failed. Its count of faults rose with this answer, or stands at its last value.
+/// The object failed. Its count of faults rose with this answer, or is `u64::MAX`.
 #[derive(Clone, Copy, Debug, PartialEq, Eq)]
 pub struct Failed;

@@ -1,7 +1,7 @@
-//! A store over a file. It adds a count to each error, and loops over short reads.
+//! A store over a file. It counts errors, and repeats short reads until the buffer is full or the file ends.
 ghost use Rattle.std.specs.Prelude.{◌≡◌, ◌+◌, ◌-◌, ◌^◌, is_some, min, length, take, not, IsTrue, IfOk, OnOk, OnErr, IsErr};
 ghost use Rattle.std.specs.Io.{ReadsAtMost};
-ghost use Rattle.acl_outside.specs.Adapters.{unknown_bytes, unknown_reads};
+ghost use Rattle.acl_outside.specs.inside.Adapters.{unknown_bytes, unknown_reads};
 ghost use Rattle.acl_outside.specs.Outside.{Rose, NotFallen, Serves, KeepsServed};
 
 use crate::positioned_read::read_full_at;
@@ -9,7 +9,8 @@ use crate::{Failed, Store};
 use std::fs::File;
 use std::marker::Model;
 
-/// A file, or none where it could not be opened: then each read fails. It tells nothing of its bytes.
+/// A file, or None where it could not be opened; then each read fails. It doesn't tell its bytes: contracts can't see
+/// them.
 #[derive(Drop)]
 pub struct FileStore {
     inner: Option<File>,
@@ -18,7 +19,7 @@ pub struct FileStore {
 
 impl Model for FileStore {
     ghost use Rattle.std.specs.Prelude.{is_some};
-    ghost use Rattle.acl_outside.specs.Adapters.{FileSeen};
+    ghost use Rattle.acl_outside.specs.inside.Adapters.{FileSeen};
 
     ghost Value = { FileSeen };
 

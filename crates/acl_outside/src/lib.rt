@@ -1,7 +1,11 @@
-//! The outside as the crates above see it: what gives bytes, what takes them, and what holds them.
+//! Sources, sinks and stores: traits for reading bytes in order, writing bytes, and reading bytes by offset. They are
+//! implemented in memory and over files and streams of the standard library.
 //!
-//! Each trait counts the faults of its object. A call fails only where that count rose, or stands
-//! at the last value of `u64`, so a failure is never made up by the code above.
+//! Each object counts its faults. A call fails only where that count rose, or is `u64::MAX`. So the contract of a
+//! caller can say whose fault an error is.
+//!
+//! An object *tells* its bytes where contracts can see them. Objects in memory do; files and streams don't. Where an
+//! object doesn't tell something, no contract claims anything of it.
 #![tactic(auto)]
 
 mod failed;

@@ -1,5 +1,5 @@
-//! A sink in memory that has a fixed room, and fails at chosen calls. It takes all its memory when
-//! it is made. As a writer with a buffer does, it settles its bytes only where it is asked to.
+//! A sink in memory with a fixed capacity that fails at chosen calls. It allocates all its memory when it is made.
+//! Like a buffered writer it settles its bytes (holds none of them back) only at a write of an empty piece.
 ghost use Rattle.std.specs.Prelude.{◌≡◌, ◌+◌, ◌-◌, ◌^◌, ◌<◌, ◌⊎◌, ◌↔◌, ◌++◌, [], Some, is_some, min, length, take, Contains, IfOk, OnOk, OnErr, IsErr};
 ghost use Rattle.std.specs.Io.KnownBytes.{Appends};
 ghost use Rattle.acl_outside.specs.Outside.{Rose, NotFallen, AppendsPart, AreAllSettled, Misses};
@@ -8,7 +8,7 @@ use crate::{Failed, NoMemory, Sink};
 use std::alloc::Global;
 use std::marker::Model;
 
-/// Bytes taken into memory. The calls of `write` are numbered from 0, up to the last `u64`.
+/// A sink that keeps its bytes in memory. Calls of `write` are numbered from 0, and the number stays at `u64::MAX`.
 #[derive(Drop)]
 pub struct MemSink {
     bytes: Vec<u8>,
@@ -22,9 +22,9 @@ pub struct MemSink {
 
 impl Model for MemSink {
     ghost use Rattle.std.specs.Prelude.{◌≤◌, take, vec_len, vec_capacity};
-    ghost use Rattle.acl_outside.specs.Fakes.{Tray};
+    ghost use Rattle.acl_outside.specs.Fakes.{MemSinkModel};
 
-    ghost Value = { Tray };
+    ghost Value = { MemSinkModel };
 
     ghost view = { λ s. record {
       written = s.bytes.items;
@@ -41,7 +41,7 @@ impl Model for MemSink {
 }
 
 impl MemSink {
-    /// An empty sink with room for so many bytes. The writes whose numbers stand in `fails` fail.
+    /// An empty sink with room for `room` bytes. The writes whose numbers are in `fails` fail.
     pub fn new(alloc: Global, room: usize, fails: Vec<u64>) -> Result<MemSink, NoMemory>
         ensures written { IfOk result (λ sink. sink.written ≡ []) }
         ensures room { IfOk result (λ sink. sink.room ≡ room) }
@@ -105,7 +105,7 @@ impl Sink for MemSink {
         ensures never_falls { NotFallen self.old.faults self.new.faults }
         ensures quiet { OnOk result (self.new.faults ≡ self.old.faults) }
 
-        // Which calls fail, and what those have taken.
+        // Which calls fail, and what those took.
         ensures fails { IsErr result ↔
             (Contains self.old.fails self.old.calls
             ⊎ (self.old.room < length self.old.written + length piece.now)) }

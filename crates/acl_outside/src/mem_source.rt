@@ -1,14 +1,14 @@
-//! A source in memory that fails at chosen calls. A failed call takes no byte.
+//! A source in memory that fails at chosen calls. A failed call consumes no byte.
 ghost use Rattle.std.specs.Prelude.{◌≡◌, ◌+◌, ◌-◌, ◌^◌, ◌<◌, ◌≤◌, ◌↔◌, ◌++◌, Some, Ok, is_some, min, length, take, drop, Contains, IfOk, OnErr, OnOk, IsErr, vec_len};
 ghost use Rattle.std.specs.Io.{ReadsAtMost};
 ghost use Rattle.std.specs.Io.KnownBytes.{Consumes, IsAtEnd, Keeps};
 ghost use Rattle.acl_outside.specs.Outside.{Rose, NotFallen};
 
-use crate::pieces::copy_front;
+use crate::pieces::copy_prefix;
 use crate::{Failed, Source};
 use std::marker::Model;
 
-/// Bytes in memory, given in pieces. The calls of `read` are numbered from 0, up to the last `u64`.
+/// Bytes in memory, given in pieces. Calls of `read` are numbered from 0, and the number stays at `u64::MAX`.
 #[derive(Drop)]
 pub struct MemSource {
     bytes: Vec<u8>,
@@ -21,9 +21,9 @@ pub struct MemSource {
 
 impl Model for MemSource {
     ghost use Rattle.std.specs.Prelude.{◌≤◌, drop, vec_len};
-    ghost use Rattle.acl_outside.specs.Fakes.{Supply};
+    ghost use Rattle.acl_outside.specs.Fakes.{MemSourceModel};
 
-    ghost Value = { Supply };
+    ghost Value = { MemSourceModel };
 
     ghost view = { λ s. record {
       left = drop s.at s.bytes.items;
@@ -37,8 +37,8 @@ impl Model for MemSource {
 }
 
 impl MemSource {
-    /// A source of these bytes that gives at most `piece` of them for each read. The reads whose
-    /// numbers stand in `fails` fail.
+    /// A source of `bytes` that gives at most `piece` of them in each read. The reads whose numbers are in `fails`
+    /// fail.
     pub fn new(bytes: Vec<u8>, piece: usize, fails: Vec<u64>) -> MemSource
         requires { 1 ≤ piece }
         ensures left { result.left ≡ bytes.items }
@@ -91,7 +91,7 @@ impl Source for MemSource {
             self.faults = self.faults.saturating_add(1);
             return Err(Failed);
         }
-        let count = copy_front(&self.bytes[self.at..], self.piece, into);
+        let count = copy_prefix(&self.bytes[self.at..], self.piece, into);
         self.at += count;
         Ok(count)
     }

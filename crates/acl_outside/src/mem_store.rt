@@ -1,15 +1,15 @@
 //! A store in memory that fails at chosen calls.
 ghost use Rattle.std.specs.Prelude.{◌≡◌, ◌+◌, ◌-◌, ◌^◌, ◌↔◌, Some, is_some, min, length, take, drop, Contains, IfOk, OnOk, OnErr, IsErr};
 ghost use Rattle.std.specs.Io.{ReadsAtMost};
-ghost use Rattle.acl_outside.specs.Adapters.{unknown_reads};
+ghost use Rattle.acl_outside.specs.inside.Adapters.{unknown_reads};
 ghost use Rattle.acl_outside.specs.Outside.{Rose, NotFallen, Serves, KeepsServed};
 
-use crate::pieces::copy_front;
+use crate::pieces::copy_prefix;
 use crate::{Failed, Store};
 use std::marker::Model;
 
-/// Bytes in memory, which the store tells. It does not tell which of them were read. The calls of
-/// `read_at` are numbered from 0, up to the last `u64`.
+/// Bytes in memory. Contracts can see them (the store *tells* them), but not which of them were read. Calls of
+/// `read_at` are numbered from 0, and the number stays at `u64::MAX`.
 #[derive(Drop)]
 pub struct MemStore {
     bytes: Vec<u8>,
@@ -19,9 +19,9 @@ pub struct MemStore {
 }
 
 impl Model for MemStore {
-    ghost use Rattle.acl_outside.specs.Fakes.{Shelf};
+    ghost use Rattle.acl_outside.specs.Fakes.{MemStoreModel};
 
-    ghost Value = { Shelf };
+    ghost Value = { MemStoreModel };
 
     ghost view = { λ s. record {
       holds = s.bytes.items;
@@ -32,7 +32,7 @@ impl Model for MemStore {
 }
 
 impl MemStore {
-    /// A store of these bytes. The reads whose numbers stand in `fails` fail.
+    /// A store of `bytes`. The reads whose numbers are in `fails` fail.
     pub fn new(bytes: Vec<u8>, fails: Vec<u64>) -> MemStore
         ensures holds { result.holds ≡ bytes.items }
         ensures fails { result.fails ≡ fails.items }
@@ -83,6 +83,6 @@ impl Store for MemStore {
             return Err(Failed);
         }
         let from = self.bytes.len().min(at as usize);
-        Ok(copy_front(&self.bytes[from..], usize::MAX, into))
+        Ok(copy_prefix(&self.bytes[from..], usize::MAX, into))
     }
 }

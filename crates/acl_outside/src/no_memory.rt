@@ -1,8 +1,8 @@
-//! Want of memory, which stands apart from every fault of the outside.
+//! The error of code that runs out of memory. It is not a fault of a source, a sink or a store.
 
 use std::alloc::{AllocError, AllocFailed};
 
-/// There was no memory for what was asked.
+/// An allocation failed.
 #[derive(Clone, Copy, Debug, PartialEq, Eq)]
 pub struct NoMemory;
 

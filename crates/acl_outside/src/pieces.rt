@@ -1,9 +1,8 @@
-//! How the objects in memory hand out bytes: the front of what they have, into the front of the room.
+//! How the objects in memory copy their bytes into the caller's buffer.
 ghost use Rattle.std.specs.Prelude.{◌≡◌, length, min, take};
 
-/// Copies the first of the bytes into the front of `into`, and answers how many: all that there
-/// are and that have room, but at most `most`.
-pub(crate) fn copy_front(bytes: &[u8], most: usize, into: &mut [u8]) -> usize
+/// Copies bytes to the start of `into` and returns how many: as many as there are and fit, but at most `most`.
+pub(crate) fn copy_prefix(bytes: &[u8], most: usize, into: &mut [u8]) -> usize
     ensures count { result ≡ min most (min (length into.old) (length bytes.now)) }
     ensures copied { take result into.new ≡ take result bytes.now }
 {

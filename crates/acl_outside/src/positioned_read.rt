@@ -1,9 +1,8 @@
-//! What a store reads its bytes from by place, some of them a call, and the loop that makes of such
-//! reads one that gives all.
+//! Reads at a byte offset, which may be short, and the loop that repeats them until the buffer is full.
 ghost use Rattle.std.specs.Prelude.{◌≡◌, ℕ, ◌-◌, ◌^◌, ◌<◌, ◌≤◌, Option, List, length, take, drop, min, IfOk, IfSome, OnOk, OnErr};
 ghost use Rattle.std.specs.Io.{ReadsAtMost};
-ghost use Rattle.acl_outside.specs.Adapters.{unknown_bytes};
-ghost use Rattle.acl_outside.specs.Tries.{Tries, unknown_tries, CountsTry, NoneFailed, OneFailed};
+ghost use Rattle.acl_outside.specs.inside.Adapters.{unknown_bytes};
+ghost use Rattle.acl_outside.specs.inside.Tries.{Tries, unknown_tries, CountsTry, NoneFailed, OneFailed};
 
 use crate::Failed;
 use std::fs::File;
@@ -11,15 +10,16 @@ use std::io;
 use std::io::ErrorKind;
 use std::os::unix::fs::FileExt;
 
+/// What a `FileStore` reads from. One call may give fewer bytes than there are and fit.
 pub(crate) trait PositionedRead {
-    /// All its bytes, which never change, where it tells them.
+    /// All its bytes, which never change, where it tells them (where contracts can see them).
     ghost told: { Self → Option (List ℕ) };
 
     /// The reads so far, where it tells them.
     ghost tries: { Self → Option Tries };
 
-    /// Gives some of the bytes from the place `at` on, at the front of `into`, and answers how
-    /// many. For an `into` with room, 0 is the end.
+    /// Copies some of the bytes from offset `at` on to the start of `into`, and returns how many. Where `into` is not
+    /// empty, 0 means that no byte follows.
     fn read_some_at(&mut self, at: u64, into: &mut [u8]) -> io::Result<usize>
         ensures constant { told self.new ≡ told self.old }
         ensures within { ReadsAtMost result into.new }
@@ -42,8 +42,8 @@ impl PositionedRead for File {
     }
 }
 
-/// Reads until `into` is full, the file is at its end, or a read fails. One that a signal cuts off
-/// is made again. No file has a byte past the last `i64`, so nothing is asked for there.
+/// Reads until `into` is full, the file ends, or a read fails. A read that a signal interrupts is repeated; after
+/// `u64::MAX` reads the call fails. No file has a byte past offset `i64::MAX`, so nothing is read there.
 pub(crate) fn read_full_at<F: PositionedRead>(
     file: &mut F,
     at: u64,

@@ -1,32 +1,32 @@
-//! What can be wrong with a store of an encoded document, each cause with what shows it.
+//! What can be wrong with a store of an encoded document, each cause with the values that show it.
 
-/// Why bytes of a store were not taken.
+/// Why the bytes of a store were refused.
 #[derive(Clone, Copy, Debug, PartialEq, Eq)]
 pub enum ReadFault {
-    /// The store's first bytes are no header.
+    /// The store's first bytes are not a header.
     BadHeader,
-    /// The header and the digest at the top make another root digest than the one that was asked for.
+    /// The digest of the root string, made of the header and the top digest, is not the wanted root.
     WrongRoot {
         want: [u8; 32],
         made: [u8; 32],
     },
-    /// The key makes another check than the one in the header.
+    /// The key check made from the key is not the one in the header.
     WrongKey {
         want: [u8; 16],
         made: [u8; 16],
     },
-    /// The store ends at this place, in bytes from its start, before what was asked for.
+    /// The store ends at the byte offset `at`, before the end of what was asked for.
     StoreShort {
         at: u64,
     },
     /// The store failed.
     StoreFault,
-    /// The bytes read for this fragment, counted from 0, make another digest than the wanted one.
+    /// The digest made from the bytes read for fragment `index` (from 0) is not the wanted one.
     BadFragment {
         index: u32,
         want: [u8; 32],
         made: [u8; 32],
     },
-    /// The bytes have their digests, and are no index of a document.
+    /// The bytes have the wanted digests, but don't encode a document.
     BadIndex,
 }

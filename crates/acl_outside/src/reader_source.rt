@@ -1,20 +1,20 @@
-//! A source over a reader of the standard library. It adds a count to each error, and loops over short
-//! reads.
+//! A source over a reader of the standard library. It counts errors, and repeats short reads until the buffer is full
+//! or the reader ends.
 ghost use Rattle.std.specs.Prelude.{◌≡◌, ℕ, ◌+◌, ◌-◌, ◌^◌, ◌<◌, Option, List, is_some, min, length, take, not, IsTrue, IfOk, OnOk, OnErr, IsErr};
 ghost use Rattle.std.specs.Option.{option_and_then};
 ghost use Rattle.std.specs.Io.{ReadsAtMost};
 ghost use Rattle.std.specs.Io.KnownBytes.{Consumes, ReadConsumes, IsAtEnd, Keeps};
-ghost use Rattle.acl_outside.specs.Adapters.{unknown_bytes};
+ghost use Rattle.acl_outside.specs.inside.Adapters.{unknown_bytes};
 ghost use Rattle.acl_outside.specs.Outside.{Rose, NotFallen};
-ghost use Rattle.acl_outside.specs.Tries.{Tries, unknown_tries, CountsTry, NoneFailed, OneFailed};
+ghost use Rattle.acl_outside.specs.inside.Tries.{Tries, unknown_tries, CountsTry, NoneFailed, OneFailed};
 
 use crate::{Failed, Source};
 use std::io;
 use std::io::{ErrorKind, Read};
 use std::marker::Model;
 
-/// A reader, or none where it could not be opened: then each read fails. It tells nothing of its bytes,
-/// since those that came before an error are gone.
+/// A reader, or None where it could not be opened; then each read fails. It doesn't tell its bytes (contracts can't see
+/// them), since those that came before an error are lost.
 #[derive(Drop)]
 pub struct ReaderSource<R: Read> {
     inner: Option<R>,
@@ -23,7 +23,7 @@ pub struct ReaderSource<R: Read> {
 
 impl<R: Read> Model for ReaderSource<R> {
     ghost use Rattle.std.specs.Prelude.{is_some, option_and_then};
-    ghost use Rattle.acl_outside.specs.Adapters.{ReaderSeen};
+    ghost use Rattle.acl_outside.specs.inside.Adapters.{ReaderSeen};
 
     ghost Value = { ReaderSeen };
 
@@ -60,7 +60,7 @@ impl<R: Read> Source for ReaderSource<R> {
         ensures never_falls { NotFallen self.old.faults self.new.faults }
         ensures quiet { OnOk result (self.new.faults ≡ self.old.faults) }
 
-        // What comes through from the reader.
+        // Which of the reader's bytes the source gives.
         ensures through { IfOk result
             (λ n. Consumes self.old.to_come self.new.to_come (take n into.new)) }
         ensures short_at_end { IfOk result (λ n. n < length into.old → IsAtEnd self.new.to_come) }
@@ -79,7 +79,7 @@ impl<R: Read> Source for ReaderSource<R> {
     }
 }
 
-// What a source reads its bytes from, some of them a call.
+/// What a `ReaderSource` reads from. One call may give fewer bytes than there are and fit.
 trait SomeRead {
     /// The bytes to come, where it tells them.
     ghost to_come: { Self → Option (List ℕ) };
@@ -87,6 +87,7 @@ trait SomeRead {
     /// The reads so far, where it tells them.
     ghost tries: { Self → Option Tries };
 
+    /// Copies some of the bytes to come to the start of `into`, and returns how many.
     fn read_some(&mut self, into: &mut [u8]) -> io::Result<usize>
         ensures within { ReadsAtMost result into.new }
         ensures bytes { ReadConsumes (to_come self.old) (to_come self.new) result into.new }
@@ -103,8 +104,8 @@ impl<R: Read> SomeRead for R {
     }
 }
 
-// Reads until `into` is full, the reader is at its end, or a read fails. One that a signal cuts off
-// is made again.
+/// Reads until `into` is full, the reader ends, or a read fails. A read that a signal interrupts is repeated; after
+/// `u64::MAX` reads the call fails.
 fn read_full<R: SomeRead>(reader: &mut R, into: &mut [u8]) -> Result<usize, Failed>
     ensures within { ReadsAtMost result into.new }
     ensures consumed { IfOk result

@@ -1,5 +1,5 @@
-//! A store over another one that notes each good read. It takes the memory for its notes when it is
-//! made, and fails where it can't note what it would serve.
+//! A store over another one that notes each good read (each one that succeeds). It allocates the memory for its notes
+//! when it is made. A read for whose note there is no room fails.
 ghost use Rattle.std.specs.Prelude.{◌≡◌, ◌+◌, ◌^◌, ◌≤◌, ◌↔◌, ◌++◌, ◌∷◌, [], Some, is_some, IsTrue, min, length, take, IfOk, OnOk, OnErr, IsErr, IfSome, ◌-◌, drop};
 ghost use Rattle.std.specs.Io.{ReadsAtMost};
 ghost use Rattle.acl_outside.specs.Fakes.{bytes_of, HasRoom};
@@ -10,8 +10,8 @@ use crate::{Failed, NoMemory, Served, Store};
 use std::alloc::Global;
 use std::marker::Model;
 
-/// A store whose good reads are noted. It tells them, and what the inner store holds where that one
-/// tells it.
+/// A store that notes the good reads of `inner`. Contracts can see these reads (it *tells* them), and the bytes of
+/// `inner` where that store tells them.
 #[derive(Drop)]
 pub struct Recorder<S: Store> {
     inner: S,
@@ -44,8 +44,7 @@ impl<S: Store> Model for Recorder<S> {
 }
 
 impl<S: Store + Drop> Recorder<S> {
-    /// A recorder over this store, with room for so many good reads, and for so many of their
-    /// bytes.
+    /// A recorder over `inner` with room for `calls` good reads, and for `bytes` of their bytes in all.
     pub fn new(alloc: Global, inner: S, calls: usize, bytes: usize) -> Result<Recorder<S>, NoMemory>
         ensures inner { IfOk result (λ recorder. recorder.inner ≡ inner) }
         ensures reads { IfOk result (λ recorder. recorder.reads ≡ []) }
@@ -65,7 +64,7 @@ impl<S: Store + Drop> Recorder<S> {
 }
 
 impl<S: Store> Recorder<S> {
-    /// The notes of the good reads, in order. Each says where in `bytes` its own stand.
+    /// The notes of the good reads, in order. Each says where its bytes are in `bytes`.
     pub fn served(&self) -> &[Served]
         ensures { reads_of result.now (bytes_of self.now.reads) ≡ self.now.reads }
     {
@@ -79,12 +78,14 @@ impl<S: Store> Recorder<S> {
         self.bytes.as_slice()
     }
 
+    /// Whether a read of `asked` bytes can be noted.
     fn has_room(&self, asked: usize) -> bool
         ensures { IsTrue result ↔ HasRoom self.now asked }
     {
         self.notes.len() < self.read_room && asked <= self.byte_room - self.bytes.len()
     }
 
+    /// Notes a good read of `asked` bytes at offset `at` that gave `bytes`.
     fn note(&mut self, at: u64, asked: usize, bytes: &[u8])
         requires room { HasRoom self.old asked }
         requires within { length bytes.now ≤ asked }
@@ -133,7 +134,7 @@ impl<S: Store> Store for Recorder<S> {
         ensures never_falls { NotFallen self.old.faults self.new.faults }
         ensures quiet { OnOk result (self.new.faults ≡ self.old.faults) }
 
-        // Which calls fail: those without room for their note, and those of the inner store.
+        // Which calls fail: those without room for their note, and those that the inner store fails.
         ensures no_room { ¬ HasRoom self.old (length into.old) → IsErr result }
         ensures not_asked { ¬ HasRoom self.old (length into.old) →
             self.new.inner ≡ self.old.inner }
@@ -144,7 +145,7 @@ impl<S: Store> Store for Recorder<S> {
         ensures one_fault { OnErr result
             (self.new.faults ≡ min (self.old.faults + 1) (2 ^ 64 - 1)) }
 
-        // What becomes of the inner store and of the rooms.
+        // How the inner store and the room change.
         ensures inner_served { IfOk result
             (λ n. Serves (S.served self.old.inner) (S.served self.new.inner)
             (record { at = at; asked = length into.new; bytes = take n into.new })) }

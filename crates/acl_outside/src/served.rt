@@ -1,7 +1,7 @@
-//! One note of a `Recorder`.
+//! A note of a `Recorder`.
 
-/// A good read: its place, how many bytes it asked for, and where in the bytes of all noted reads
-/// those stand that it gave, and how many they are.
+/// A read of `asked` bytes at the byte offset `at` that succeeded. It gave `count` bytes, which begin at `from` in the
+/// recorder's `bytes`.
 #[derive(Clone, Copy, Debug, PartialEq, Eq)]
 pub struct Served {
     pub at: u64,

@@ -1,10 +1,12 @@
-//! What takes bytes in order. A failed write has taken a front part of its piece, maybe none of it.
+//! Sinks: objects that take bytes in order. A failed write took a prefix of its piece, possibly none of it.
 ghost use Rattle.std.specs.Prelude.{◌≡◌, ℕ, Option, List, [], is_some, OnOk, OnErr};
 ghost use Rattle.std.specs.Io.KnownBytes.{Appends, Keeps};
 ghost use Rattle.acl_outside.specs.Outside.{Rose, NotFallen, AppendsPart, AreAllSettled, Misses};
 
 use crate::Failed;
 
+/// An object that bytes are written to. It *tells* something where contracts can see it; nothing is claimed of what it
+/// doesn't tell.
 pub trait Sink {
     /// All bytes taken so far, where the sink tells them.
     ghost written: { Self → Option (List ℕ) };
@@ -12,13 +14,13 @@ pub trait Sink {
     /// How many bytes of its piece the last failed write did not take, where the sink tells it.
     ghost missed: { Self → Option ℕ };
 
-    /// The bytes that the sink has been asked to hold back no longer, where it tells them.
+    /// The *settled* bytes, where the sink tells them: those that it was asked to hold back no longer.
     ghost settled: { Self → Option (List ℕ) };
 
     /// How often the sink has failed.
     ghost faults: { Self → ℕ };
 
-    /// Takes the whole piece, or fails. An empty piece asks the sink to hold no earlier byte back.
+    /// Takes the whole piece, or fails. An empty piece is a flush: it asks the sink to hold no earlier byte back.
     fn write(&mut self, piece: &[u8]) -> Result<(), Failed>
         ensures whole { OnOk result (Appends (written self.old) (written self.new) piece.now) }
         ensures part { OnErr result (AppendsPart (written self.old) (written self.new) piece.now) }
@@ -37,8 +39,8 @@ pub trait Sink {
         ensures quiet { OnOk result (faults self.new ≡ faults self.old) };
 }
 
-/// Asks a sink to hold no earlier byte back, as the last thing that is said to it. Where it fails,
-/// bytes that were taken may be lost, and what the sink tells of them stays as it was.
+/// Flushes a sink after the last write. Where this fails, bytes that the sink took may be lost; what it tells of them
+/// stays as it was.
 pub fn finish<K: Sink>(sink: &mut K) -> Result<(), Failed>
     ensures kept { Keeps (K.written sink.old) (K.written sink.new) }
     ensures missed { OnErr result

@@ -1,4 +1,4 @@
-//! What gives bytes in order, from a first to a last. A failed read takes nothing away.
+//! Sources: objects that give bytes in order, from first to last. A failed read consumes nothing.
 ghost use Rattle.std.specs.Prelude.{◌≡◌, ℕ, Option, ◌<◌, List, length, take, is_some, IfOk, OnOk, OnErr};
 ghost use Rattle.std.specs.Io.{ReadsAtMost};
 ghost use Rattle.std.specs.Io.KnownBytes.{Consumes, IsAtEnd, Keeps};
@@ -6,6 +6,8 @@ ghost use Rattle.acl_outside.specs.Outside.{Rose, NotFallen};
 
 use crate::Failed;
 
+/// An object that bytes are read from. It *tells* its bytes where contracts can see them; nothing is claimed of bytes
+/// that it doesn't tell.
 pub trait Source {
     /// The bytes to come, where the source tells them.
     ghost left: { Self → Option (List ℕ) };
@@ -13,9 +15,8 @@ pub trait Source {
     /// How often the source has failed.
     ghost faults: { Self → ℕ };
 
-    /// Gives some of the bytes to come, at the front of `into`, and answers how many. For an `into`
-    /// with room, 0 is the end, where nothing is left. What stands in `into` behind the bytes given
-    /// is not said.
+    /// Copies some of the bytes to come to the start of `into`, and returns how many. Where `into` is not empty, 0
+    /// means that no byte is left. The rest of `into` is unspecified.
     fn read(&mut self, into: &mut [u8]) -> Result<usize, Failed>
         ensures within { ReadsAtMost result into.new }
         ensures good { IfOk result

@@ -1,11 +1,13 @@
-//! Stores: bytes that are read by their place. Of a store that doesn't tell its bytes no more is
-//! known of an answer than how long it can be, and asked twice it may say two things.
+//! Stores: bytes that are read by their offset. Where a store doesn't tell its bytes, only the length of an answer is
+//! bounded, and two reads at one offset may give different bytes.
 ghost use Rattle.std.specs.Prelude.{◌≡◌, ℕ, Option, ◌-◌, List, length, take, drop, min, is_some, IfOk, IfSome, OnOk, OnErr};
 ghost use Rattle.std.specs.Io.{ReadsAtMost};
 ghost use Rattle.acl_outside.specs.Outside.{Rose, NotFallen, StoreRead, Serves, KeepsServed};
 
 use crate::Failed;
 
+/// An object that holds bytes. It *tells* them where contracts can see them; nothing is claimed of bytes that it
+/// doesn't tell.
 pub trait Store {
     /// The bytes that the store holds, which never change, where it tells them.
     ghost holds: { Self → Option (List ℕ) };
@@ -16,8 +18,8 @@ pub trait Store {
     /// How often the store has failed.
     ghost faults: { Self → ℕ };
 
-    /// Gives the bytes from the place `at` on, counted from 0, at the front of `into`, and answers
-    /// how many. What stands in `into` behind them is not said.
+    /// Copies the bytes from offset `at` on to the start of `into`, and returns how many. The rest of `into` is
+    /// unspecified.
     fn read_at(&mut self, at: u64, into: &mut [u8]) -> Result<usize, Failed>
         ensures constant { holds self.new ≡ holds self.old }
         ensures within { ReadsAtMost result into.new }

@@ -4,11 +4,11 @@ ghost use Rattle.std.specs.Io.{ReadsAtMost};
 ghost use Rattle.std.specs.Io.KnownBytes.{Consumes, IsAtEnd, Keeps};
 ghost use Rattle.acl_outside.specs.Outside.{Rose, NotFallen, SameCount};
 
-use crate::pieces::copy_front;
+use crate::pieces::copy_prefix;
 use crate::{Failed, Source};
 use std::marker::Model;
 
-/// Bytes in memory, seen as the list of those to come.
+/// Bytes in memory. Its model is the list of the bytes to come.
 #[derive(Drop)]
 pub struct SureSource {
     bytes: Vec<u8>,
@@ -26,7 +26,7 @@ impl Model for SureSource {
 }
 
 impl SureSource {
-    /// A source of these bytes.
+    /// A source of `bytes`.
     pub fn new(bytes: Vec<u8>) -> SureSource
         ensures { result ≡ bytes.items }
     {
@@ -53,7 +53,7 @@ impl Source for SureSource {
         ensures sure { IsOk result }
         ensures count { IfOk result (λ n. n ≡ min (length into.old) (length self.old)) }
     {
-        let count = copy_front(&self.bytes[self.at..], usize::MAX, into);
+        let count = copy_prefix(&self.bytes[self.at..], usize::MAX, into);
         self.at += count;
         Ok(count)
     }

@@ -1,14 +1,14 @@
 //! A store in memory that never fails, so its count of faults is always 0.
 ghost use Rattle.std.specs.Prelude.{◌≡◌, ◌-◌, Some, is_some, length, take, drop, min, IfOk, OnOk, OnErr, IsOk};
 ghost use Rattle.std.specs.Io.{ReadsAtMost};
-ghost use Rattle.acl_outside.specs.Adapters.{unknown_reads};
+ghost use Rattle.acl_outside.specs.inside.Adapters.{unknown_reads};
 ghost use Rattle.acl_outside.specs.Outside.{Rose, NotFallen, SameCount, Serves, KeepsServed};
 
-use crate::pieces::copy_front;
+use crate::pieces::copy_prefix;
 use crate::{Failed, Store};
 use std::marker::Model;
 
-/// Bytes in memory, which the store tells. It does not tell which of them were read.
+/// Bytes in memory. Contracts can see them (the store *tells* them), but not which of them were read.
 #[derive(Drop)]
 pub struct SureStore {
     bytes: Vec<u8>,
@@ -23,7 +23,7 @@ impl Model for SureStore {
 }
 
 impl SureStore {
-    /// A store of these bytes.
+    /// A store of `bytes`.
     pub fn new(bytes: Vec<u8>) -> SureStore
         ensures { result ≡ bytes.items }
     {
@@ -54,6 +54,6 @@ impl Store for SureStore {
         ensures sure { IsOk result }
     {
         let from = self.bytes.len().min(at as usize);
-        Ok(copy_front(&self.bytes[from..], usize::MAX, into))
+        Ok(copy_prefix(&self.bytes[from..], usize::MAX, into))
     }
 }

@@ -1,5 +1,5 @@
-//! Each object in memory call by call, and each adapter over an object of the standard library. The
-//! expected answers follow by hand from the words on each type.
+//! Tests of each object in memory call by call, and of each adapter over an object of the standard library. The
+//! expected answers follow by hand from the comment on each type.
 
 use super::*;
 use std::alloc::Global;
@@ -11,7 +11,7 @@ use std::test::Fail;
 
 mod stores;
 
-// Reads into a room of three bytes, and compares the answer and the bytes given.
+/// Reads into a buffer of three bytes, and compares the answer and the bytes given.
 fn expect_read<Q: Source>(
     rt: &impl Abort,
     source: &mut Q,
@@ -61,6 +61,7 @@ fn a_sure_source_gives_what_has_room(rt: HostRuntime) -> Result<(), Fail> {
     Ok(())
 }
 
+/// Writes a piece and compares the answer.
 fn expect_write<K: Sink>(rt: &impl Abort, sink: &mut K, piece: &[u8], want: Result<(), Failed>) {
     assert_eq!(rt; sink.write(piece), want, "{piece:?}");
 }
@@ -118,13 +119,14 @@ fn an_adapter_without_an_object_fails_at_each_call(rt: HostRuntime) {
     }
 }
 
-// A reader and writer of one byte a call, whose calls in turn succeed, are interrupted, and fail.
+/// A reader and writer of one byte a call. The third call is interrupted, the sixth fails, the others succeed.
 #[derive(Drop)]
 struct Stumbling {
     calls: u8,
 }
 
 impl Stumbling {
+    /// The answer of the next call.
     fn step(&mut self) -> io::Result<()> {
         self.calls = self.calls.saturating_add(1);
         match self.calls {

@@ -1,15 +1,16 @@
-//! A sink over a writer of the standard library. It adds a count to each error. The writer may hold
-//! bytes back; an empty piece makes it hand them on, and fails where it can't.
+//! A sink over a writer of the standard library. It counts errors. An empty piece flushes the writer, which may hold
+//! bytes back, and fails where the flush fails.
 ghost use Rattle.std.specs.Prelude.{◌≡◌, ◌+◌, ◌-◌, ◌^◌, [], is_some, min, OnOk, OnErr};
 ghost use Rattle.std.specs.Io.KnownBytes.{Appends};
-ghost use Rattle.acl_outside.specs.Adapters.{unknown_bytes, unknown_count};
+ghost use Rattle.acl_outside.specs.inside.Adapters.{unknown_bytes, unknown_count};
 ghost use Rattle.acl_outside.specs.Outside.{Rose, NotFallen, AppendsPart, AreAllSettled, Misses};
 
 use crate::{Failed, Sink};
 use std::io::Write;
 use std::marker::Model;
 
-/// A writer. It tells nothing of its bytes, since after an error some of the piece may be taken.
+/// A writer. It doesn't tell its bytes (contracts can't see them), since after an error any part of the piece may be
+/// written.
 #[derive(Drop)]
 pub struct WriterSink<W: Write> {
     inner: W,
@@ -17,7 +18,7 @@ pub struct WriterSink<W: Write> {
 }
 
 impl<W: Write> Model for WriterSink<W> {
-    ghost use Rattle.acl_outside.specs.Adapters.{WriterSeen};
+    ghost use Rattle.acl_outside.specs.inside.Adapters.{WriterSeen};
 
     ghost Value = { WriterSeen };
 
@@ -57,7 +58,7 @@ impl<W: Write> Sink for WriterSink<W> {
         ensures never_falls { NotFallen self.old.faults self.new.faults }
         ensures quiet { OnOk result (self.new.faults ≡ self.old.faults) }
 
-        // What goes through to the writer.
+        // Which bytes the writer takes.
         ensures through { OnOk result (Appends self.old.holds self.new.holds piece.now) }
         ensures one_fault { OnErr result
             (self.new.faults ≡ min (self.old.faults + 1) (2 ^ 64 - 1)) }

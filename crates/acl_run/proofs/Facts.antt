@@ -1,9 +1,9 @@
--- Facts that hold anyway, under a test or under what a run ended by.
+-- Facts that are true without a condition are so under one: a test, or how a run ended.
 use Rattle.std.proofs.Common.{ℕ, Bool, true, false, ◌&&◌, ◌||◌, Option, Some, None, List, IsTrue, IfSome, sym, true≢false}
 use Rattle.std.specs.Bool.{OnTrue, OnFalse}
 use Rattle.acl_outcome.specs.Ends.{Object, keys, input, store, out, note, End, done, no_memory, usage, fault, stopped, refused, is_same}
 use Rattle.acl_run.specs.Steps.{Question, may_refuse, OrNoMemory, OrFaultOf, OrRefusalOf}
-use Rattle.acl_run.specs.Texts.{WhereWhole}
+use Rattle.acl_run.specs.WrittenTexts.{WhereWhole}
 
 -- ---- tests
 
@@ -15,12 +15,12 @@ pub on_false : (b : Bool) {P : Type 0} → P → OnFalse b P
 on_false true p = tt
 on_false false p = p
 
--- nothing is asked where the test is passed
+-- nothing is claimed where the test is passed
 pub on_false-true : (b : Bool) (P : Type 0) → IsTrue b → OnFalse b P
 on_false-true true P h = tt
 on_false-true false P h = absurd (true≢false (sym h))
 
--- what is left of a test of which the other part fails
+-- a test of two parts, of which the second fails, is its first part
 pub or_false : (b : Bool) → IsTrue (b || false) → IsTrue b
 or_false true h = h
 or_false false h = h
@@ -55,7 +55,7 @@ or_refusal_of question (fault x) p = p
 or_refusal_of question stopped p = p
 or_refusal_of question (refused subject) p = on_false (may_refuse question subject) p
 
--- what follows from a fact
+-- a fact under a condition may be replaced by one that it implies
 pub or_no_memory_so : (e : End) (P Q : Type 0) → (P → Q) → OrNoMemory e P → OrNoMemory e Q
 or_no_memory_so done P Q f p = f p
 or_no_memory_so no_memory P Q f p = tt
@@ -76,7 +76,7 @@ or_fault_of_so x (fault y) P Q f p = on_false_so (is_same x y) P Q f p
 or_fault_of_so x stopped P Q f p = f p
 or_fault_of_so x (refused subject) P Q f p = f p
 
--- what holds anyway where the whole was written
+-- a true fact is true where the whole text was written
 pub where_whole : (e : End) {P : Type 0} → P → WhereWhole e P
 where_whole done p = p
 where_whole no_memory p = tt
@@ -89,7 +89,7 @@ where_whole (fault note) p = p
 where_whole stopped p = tt
 where_whole (refused subject) p = tt
 
--- what follows where the whole was written
+-- a fact for a whole text may be replaced by one that it implies
 pub where_whole_so : (e : End) (P Q : Type 0) → (P → Q) → WhereWhole e P → WhereWhole e Q
 where_whole_so done P Q f p = f p
 where_whole_so no_memory P Q f p = tt
@@ -104,7 +104,7 @@ where_whole_so (refused subject) P Q f p = tt
 
 -- ---- sources
 
--- what holds whatever both sources tell
+-- a fact about all bytes of both sources is one about those that they tell
 pub whatever_told : (kl ql : Option (List ℕ)) (P : List ℕ → List ℕ → Type 0) → ((a b : List ℕ) → P a b) → IfSome kl (λ a. IfSome ql (λ b. P a b))
 whatever_told None ql P h = tt
 whatever_told (Some a) None P h = tt

@@ -1,4 +1,4 @@
--- Which ends the faults of a body come to.
+-- How a run ends for each fault of a licence body.
 use Rattle.std.proofs.Common.{◌≡◌, ℕ, Err, List, IsTrue, refl}
 use Rattle.licence.specs.Body.{read_body_of, Reads}
 use Rattle.licence.specs.Sealed.{sealed_text_of}
@@ -9,10 +9,10 @@ use Rattle.licence.proofs.NoOther.{no_seal, no_seal_in_text}
 use Rattle.acl_outcome.specs.declared.outcome.Outcome.{Outcome}
 use Rattle.acl_outcome.specs.Ends.{keys, input, end_of}
 use Rattle.acl_run.specs.Outcomes.{outcome_of_licence_fault}
-use Rattle.acl_run.specs.Reading.{ends_reading}
+use Rattle.acl_run.specs.inside.SourceSteps.{ends_reading}
 use Rattle.acl_run.specs.Steps.{are_rules, is_body}
 
--- A body by itself has no seal that could be wrong.
+-- The body that `preview` reads has no seal, so BadSeal is no end there.
 pub rules_end : (bytes : List ℕ) (o : Outcome) (failure : LicenceFault) → o ≡ outcome_of_licence_fault failure → Reads {A = Licence} (read_body_of bytes) (Err failure)
     → IsTrue (ends_reading keys are_rules (end_of o))
 rules_end bytes o (BadSeal given made) is h = absurd (no_seal bytes given made h)
@@ -22,7 +22,7 @@ rules_end bytes o TooManyRules is h = rw is refl
 rules_end bytes o TooManyStates is h = rw is refl
 rules_end bytes o NoMemory is h = rw is refl
 
--- Nor has one that is to be sealed.
+-- Neither has the body that `seal` reads.
 pub body_end : (key bytes : List ℕ) (o : Outcome) (failure : LicenceFault) → o ≡ outcome_of_licence_fault failure → Reads {A = List ℕ} (sealed_text_of bytes key) (Err failure)
     → IsTrue (ends_reading input is_body (end_of o))
 body_end key bytes o (BadSeal given made) is h = absurd (no_seal_in_text key bytes given made h)

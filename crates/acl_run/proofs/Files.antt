@@ -12,7 +12,7 @@ use Rattle.acl_outcome.specs.declared.outcome.Outcome.{Outcome}
 use Rattle.acl_outcome.specs.Ends.{end_of}
 use Rattle.acl_run.specs.Outcomes.{outcome_of_encode_fault}
 use Rattle.acl_run.specs.Readers.{with_file}
-use Rattle.acl_run.specs.Reading.{ends_asking}
+use Rattle.acl_run.specs.inside.SourceSteps.{ends_asking}
 use Rattle.acl_run.specs.Steps.{has_file, OrNoMemory}
 use borrow.Author.Tests.{leb-true, lt-ltb, le-ltb}
 
@@ -23,7 +23,7 @@ both true true h = (refl, refl)
 both true false h = absurd (cc)
 both false b h = absurd (cc)
 
--- one of many names, or a large one, or neither
+-- the answer for a document of too many names, for one that is too large, and for any other
 abbrev chosen : Bool → Bool → Doc → Result Doc Outcome
 chosen many large d = if many then Err Outcome.TooManyTags else if large then Err Outcome.TooLarge else Ok d
 
@@ -43,7 +43,7 @@ large_alone false false d not_many is_large = absurd (cc)
 
 -- ---- files
 
--- A document of which a file was made has one.
+-- If a file was made of a document, the document has one.
 pub made_has_file : (d : Doc) (key : List ℕ) (encoded : Encoded) → IsFileOf d key encoded → with_file d ≡ Ok d
 unfolding with_file
 made_has_file d key encoded made =
@@ -52,20 +52,20 @@ made_has_file d key encoded made =
     (le-ltb 256 (length (dictionary d)) (leb-true (length (dictionary d)) 256 fits.0))
     (le-ltb 33554432 (sections_size d) (leb-true (sections_size d) 33554432 fits.1))
 
--- Of many names it is refused for them.
+-- A document of too many names is refused with TooManyTags.
 refused_for_names : (d : Doc) → 256 < length (dictionary d) → with_file d ≡ Err Outcome.TooManyTags
 unfolding with_file
 refused_for_names d many =
     many_names (nat_lt 256 (length (dictionary d))) (nat_lt 33554432 (sections_size d)) d (lt-ltb 256 (length (dictionary d)) many)
 
--- Of few names it is refused for its size.
+-- A document that is too large alone is refused with TooLarge.
 refused_for_size : (d : Doc) → length (dictionary d) ≤ 256 → 33554432 < sections_size d → with_file d ≡ Err Outcome.TooLarge
 unfolding with_file
 refused_for_size d few large =
     large_alone (nat_lt 256 (length (dictionary d))) (nat_lt 33554432 (sections_size d)) d
     (le-ltb 256 (length (dictionary d)) few) (lt-ltb 33554432 (sections_size d) large)
 
--- Where none was made it has none, or memory was wanting.
+-- If no file was made, the document has none, or memory ran out.
 pub refused_file : (d : Doc) (o : Outcome) (failure : EncodeFault) (r : Result Encoded EncodeFault) → o ≡ outcome_of_encode_fault failure → r ≡ Err failure
     → (r ≡ Err TooManyTags → 256 < length (dictionary d)) → (r ≡ Err TooLarge → length (dictionary d) ≤ 256)
     → (r ≡ Err TooLarge → 33554432 < sections_size d)

@@ -1,28 +1,28 @@
--- How a run that ends at a step, or goes on behind it, follows its steps.
+-- A run that ends at a step, or goes on after it, follows the steps of its command.
 use Rattle.std.proofs.Common.{◌≡◌, ℕ, Option, Some, None, Result, Ok, Err, List, ◌∷◌, IsTrue, IfSome, ap, sym, subst, true≢false}
 use Rattle.acl_outcome.specs.declared.outcome.Outcome.{Outcome}
 use Rattle.acl_outcome.specs.Ends.{Object, out, note, End, done, no_memory, fault, refused, is_same, end_of}
-use Rattle.acl_run.specs.Reading.{ends_reading, ends_asking}
+use Rattle.acl_run.specs.inside.SourceSteps.{ends_reading, ends_asking}
 use Rattle.acl_run.specs.Steps.{Question, Finding, good, bad, unknown, Step, reads, asks, makes, writes, may_end_from, finding_in, finding_of, may_refuse, OrNoMemory, OrFaultOf, EndsAtOr, Follows, IsDone}
-use Rattle.acl_run.specs.Writing.{writing_steps, noting_steps}
+use Rattle.acl_run.specs.inside.WritingSteps.{writing_steps, noting_steps}
 use Rattle.acl_run.proofs.Facts.{on_false-true, or_false, and_true, or_no_memory, or_fault_of, or_refusal_of}
 
 -- ---- at a question
 
--- where a source tells nothing, a run may end at a question by each of its ends
+-- where a source doesn't tell its bytes, a run may end at a question by each end of the question
 untold_asking : (question : Question) (o : Outcome) (e : End) (later : Type 0) → IsTrue (ends_asking question e)
     → EndsAtOr (asks question unknown) o e later
 untold_asking question o no_memory later h = tt
 untold_asking question o (refused subject) later h = on_false-true (may_refuse question subject) _ (and_true _ (or_false _ h))
 untold_asking question o e later h = absurd (true≢false (sym h))
 
--- want of memory ends a run at each question
+-- out of memory ends a run at each question
 asking_memory : (question : Question) (found : Finding) (o : Outcome) (later : Type 0) → EndsAtOr (asks question found) o no_memory later
 asking_memory question good o later = tt
 asking_memory question (bad refusal) o later = tt
 asking_memory question unknown o later = tt
 
--- where it tells its bytes, a run that ends there ends by their refusal, or else by want of memory
+-- where a source tells its bytes, a run that ends at a question ends by their refusal or by out of memory
 told_asking : {A : Type 0} (question : Question) (wanted : Result A Outcome) (o : Outcome) (e : End) (later : Type 0)
     → IsTrue (ends_asking question e) → OrNoMemory e (wanted ≡ Err o)
     → EndsAtOr (asks question (finding_in wanted)) o e later
@@ -31,7 +31,7 @@ told_asking question (Ok a) o (refused subject) later h w = absurd (cc)
 told_asking question (Err refusal) o (refused subject) later h w = cc
 told_asking question wanted o e later h w = absurd (true≢false (sym h))
 
--- a run that goes on behind a question
+-- a run that goes on after a question
 pub asking_passes : {A : Type 0} (question : Question) (reader : List ℕ → Result A Outcome) (left : Option (List ℕ)) (a : A) (o : Outcome) (steps : List Step)
     → IfSome left (λ bytes. reader bytes ≡ Ok a) → Follows steps o → Follows (asks question (finding_of reader left) ∷ steps) o
 asking_passes question reader None a o steps h later = or_no_memory (end_of o) (or_refusal_of question (end_of o) later)
@@ -47,7 +47,7 @@ asking_ends question reader (Some bytes) o steps h w = told_asking question (rea
 
 -- ---- at the reading of a source
 
--- where a source tells nothing, a run may end at its reading by each of its ends
+-- where a source doesn't tell its bytes, a run may end at its reading by each end of the reading
 untold_ends : (x : Object) (question : Question) (o : Outcome) (e : End) (later : Type 0) → IsTrue (ends_reading x question e)
     → EndsAtOr (reads x) o e (EndsAtOr (asks question unknown) o e later)
 untold_ends x question o no_memory later h = tt
@@ -55,7 +55,7 @@ untold_ends x question o (fault y) later h = on_false-true (is_same x y) _ (or_f
 untold_ends x question o (refused subject) later h = on_false-true (may_refuse question subject) _ (and_true _ (or_false _ h))
 untold_ends x question o e later h = absurd (true≢false (sym h))
 
--- where it tells its bytes, a run that ends at its reading ends by their refusal, or else by want of memory or a fault
+-- where a source tells its bytes, a run that ends at its reading ends by their refusal, out of memory or a fault
 told_ends : {A : Type 0} (x : Object) (question : Question) (wanted : Result A Outcome) (o : Outcome) (e : End) (later : Type 0)
     → IsTrue (ends_reading x question e) → OrNoMemory e (OrFaultOf x e (wanted ≡ Err o))
     → EndsAtOr (reads x) o e (EndsAtOr (asks question (finding_in wanted)) o e later)
@@ -72,16 +72,16 @@ pub reading_ends : {A : Type 0} (x : Object) (question : Question) (reader : Lis
 reading_ends x question reader None o steps h w = untold_ends x question o (end_of o) _ h
 reading_ends x question reader (Some bytes) o steps h w = told_ends x question (reader bytes) o (end_of o) _ h w
 
--- ---- behind a step
+-- ---- after a step
 
--- where good bytes were found
+-- a run that goes on after good bytes
 good_found : (x : Object) (question : Question) (found : Finding) (o : Outcome) (steps : List Step) → found ≡ good → Follows steps o
     → Follows (reads x ∷ asks question found ∷ steps) o
 good_found x question found o steps h later =
     subst (λ found. Follows (reads x ∷ asks question found ∷ steps) o) (sym h)
     (or_no_memory (end_of o) (or_fault_of x (end_of o) (or_no_memory (end_of o) later)))
 
--- a run that goes on behind the reading of a source, where its bytes are good
+-- a run that goes on after the reading of a source, where its bytes are good
 pub good_passes : {A : Type 0} (x : Object) (question : Question) (reader : List ℕ → Result A Outcome) (left : Option (List ℕ)) (o : Outcome) (steps : List Step)
     → IfSome left (λ bytes. finding_in (reader bytes) ≡ good) → Follows steps o
     → Follows (reads x ∷ asks question (finding_of reader left) ∷ steps) o
@@ -94,7 +94,7 @@ good_where_read : {A : Type 0} (reader : List ℕ → Result A Outcome) (left : 
 good_where_read reader None a h = tt
 good_where_read reader (Some bytes) a h = ap finding_in h
 
--- a run that goes on behind the reading of a source, where a value was read
+-- a run that goes on after the reading of a source, where a value was read
 pub reading_passes : {A : Type 0} (x : Object) (question : Question) (reader : List ℕ → Result A Outcome) (left : Option (List ℕ)) (a : A) (o : Outcome) (steps : List Step)
     → IfSome left (λ bytes. reader bytes ≡ Ok a) → Follows steps o
     → Follows (reads x ∷ asks question (finding_of reader left) ∷ steps) o

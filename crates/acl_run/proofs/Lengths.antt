@@ -1,4 +1,4 @@
--- What a run does where a source gives more bytes than its limit.
+-- What a run does where a source has more bytes than its limit.
 use Rattle.std.proofs.Common.{◌≡◌, ℕ, Bool, true, false, Option, Some, None, Result, Ok, Err, List, length, IsTrue}
 use Rattle.std.proofs.Common.{IfSome, refl, sym, ap, subst, arith, true≢false}
 use Rattle.std.specs.Prelude.{nat_le, if◌then◌else◌, ◌≤◌}
@@ -19,17 +19,17 @@ use Rattle.acl_outcome.specs.Ends.{some_keys, a_size, a_file}
 use Rattle.acl_outcome.specs.Ends.{End, done, no_memory, usage, fault, stopped, refused, end_of}
 use Rattle.acl_words.specs.Command.{Shown, sample}
 use Rattle.acl_run.specs.Lengths.{WhereTooLong, WhereWithin, is_too_long}
-use Rattle.acl_run.specs.Opening.{ends_opening}
+use Rattle.acl_run.specs.inside.Opening.{ends_opening}
 use Rattle.acl_run.specs.Outcomes.{outcome_of_keys_error, outcome_of_licence_fault}
 use Rattle.acl_run.specs.Readers.{keys_of, licence_of, most_key_bytes, read_within}
-use Rattle.acl_run.specs.Reading.{is_refusal, ends_asking}
+use Rattle.acl_run.specs.inside.SourceSteps.{is_refusal, ends_asking}
 use Rattle.acl_run.specs.Steps.{has_file, may_end_from, OrNoMemory, OrFaultOf}
 use Rattle.acl_run.specs.Work.{ends_at_query, may_end, untold_steps}
-use Rattle.acl_run.specs.Writing.{writing_steps, noting_steps}
+use Rattle.acl_run.specs.inside.WritingSteps.{writing_steps, noting_steps}
 
 -- ---- where the keys are too long
 
--- a value was read of bytes that are within the limit
+-- bytes that were read as a value are within the limit
 read_is_within : {A : Type 0} (within : Bool) (wanted : Result A Outcome) (refusal : Outcome) (a : A)
     → (if within then wanted else Err refusal) ≡ Ok a → within ≡ true
 read_is_within true wanted refusal a is = refl
@@ -60,12 +60,12 @@ rules_not_long None licence P is = tt
 rules_not_long (Some bytes) licence P is =
     λ long. absurd (let fits = rules_are_within bytes licence is in omega (arith, fits, long))
 
--- what holds anyway holds where a source is too long
+-- a true fact is true where a source is too long
 pub long_anyway : (limit : ℕ) (left : Option (List ℕ)) (P : Type 0) → P → WhereTooLong limit left P
 long_anyway limit None P p = tt
 long_anyway limit (Some bytes) P p = λ long. p
 
--- what follows where a source is too long
+-- a fact for a source that is too long may be replaced by one that it implies
 pub long_so : (limit : ℕ) (left : Option (List ℕ)) (P Q : Type 0) → (P → Q) → WhereTooLong limit left P
     → WhereTooLong limit left Q
 long_so limit None P Q f p = tt
@@ -73,12 +73,12 @@ long_so limit (Some bytes) P Q f p = λ long. f (p long)
 
 -- ---- where the input is too long
 
--- what holds anyway holds where a source is within its limit
+-- a true fact is true where a source is within its limit
 pub within_anyway : (limit : ℕ) (left : Option (List ℕ)) (P : Type 0) → P → WhereWithin limit left P
 within_anyway limit None P p = tt
 within_anyway limit (Some bytes) P p = λ within. p
 
--- nothing is said of a run that did not end by a length
+-- nothing is claimed of a run that did not end by a length
 not_long : (e : End) (P : Type 0) → is_too_long e ≡ false → OnTrue (is_too_long e) P
 not_long e P h = subst (λ (b : Bool). OnTrue b P) (sym h) tt
 
@@ -103,12 +103,12 @@ input_was_read (refused some_keys) P Q p q = tt
 input_was_read (refused a_size) P Q p q = tt
 input_was_read (refused a_file) P Q p q = tt
 
--- it ended where the input was read
+-- the run ended at the reading of the input
 pub ends_at_input : (limit : ℕ) (left : Option (List ℕ)) (e : End) (P Q : Type 0) → P → OnTrue (is_refusal e) Q
     → WhereWithin limit left (OnTrue (is_too_long e) (P × Q))
 ends_at_input limit left e P Q p q = within_anyway limit left _ (input_was_read e P Q p q)
 
--- what refuses bytes within the limit is no length
+-- bytes within the limit are refused, but not for their length
 refused_so : (e : End) (x : Object) (P Q : Type 0) → (P → is_too_long e ≡ false) → OrNoMemory e (OrFaultOf x e P)
     → OnTrue (is_too_long e) Q
 refused_so done x P Q f w = tt
@@ -163,7 +163,7 @@ rules_refusal_of bytes o within is =
     rules_refusal (nat_le (length bytes) most_key_bytes) (read_body_of bytes) _ o
     (le-leb (length bytes) most_key_bytes within) is
 
--- keys within the limit are refused by no length
+-- keys within the limit are not refused for their length
 pub keys_end : (kl : Option (List ℕ)) (o : Outcome) (P : Type 0)
     → IfSome kl (λ bytes. OrNoMemory (end_of o) (OrFaultOf keys (end_of o) (keys_of bytes ≡ Err o)))
     → WhereWithin most_key_bytes kl (OnTrue (is_too_long (end_of o)) P)
@@ -171,7 +171,7 @@ keys_end None o P w = tt
 keys_end (Some bytes) o P w =
     λ within. refused_so (end_of o) keys (keys_of bytes ≡ Err o) P (keys_refusal_of bytes o within) w
 
--- rules within the limit are refused by no length
+-- rules within the limit are not refused for their length
 pub rules_end : (kl : Option (List ℕ)) (o : Outcome) (P : Type 0)
     → IfSome kl (λ bytes. OrNoMemory (end_of o) (OrFaultOf keys (end_of o) (licence_of bytes ≡ Err o)))
     → WhereWithin most_key_bytes kl (OnTrue (is_too_long (end_of o)) P)
@@ -179,7 +179,7 @@ rules_end None o P w = tt
 rules_end (Some bytes) o P w =
     λ within. refused_so (end_of o) keys (licence_of bytes ≡ Err o) P (rules_refusal_of bytes o within) w
 
--- ---- at other steps a run ends by no length
+-- ---- at other steps no run ends by a length
 
 pub query-not_long : (what : Shown) (e : End) → IsTrue (ends_at_query what e) → is_too_long e ≡ false
 query-not_long what done h = absurd (true≢false (sym h))

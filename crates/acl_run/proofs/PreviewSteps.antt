@@ -1,4 +1,4 @@
--- How `preview` keeps its promises, end by end.
+-- How `preview` keeps its contract, for each way in which it ends.
 use Rattle.std.proofs.Common.{◌≡◌, ℕ, false, Option, Some, None, Result, Ok, Err, List, [], ◌∷◌, IsTrue, IfSome, refl, sym, ap, ◌∙◌, true≢false}
 use Rattle.std.specs.Bool.{OnTrue}
 use Rattle.std.specs.Result.{result_map_both}
@@ -12,20 +12,20 @@ use Rattle.acl_outcome.specs.Ends.{End, done, no_memory, fault, refused, is_faul
 use Rattle.acl_words.specs.Command.{Shown, the_view, an_answer, an_explanation, preview}
 use Rattle.acl_run.specs.Preview.{wanted_by, wanted_text, preview_text}
 use Rattle.acl_run.specs.Readers.{licence_of, query_of, document_of}
-use Rattle.acl_run.specs.Reading.{is_refusal, ends_reading}
+use Rattle.acl_run.specs.inside.SourceSteps.{is_refusal, ends_reading}
 use Rattle.acl_run.specs.Steps.{are_rules, is_query, is_document, good, Step, reads, asks, finding_of, may_end_in, may_end_from, is_before, is_writing_to, OrNoMemory, OrFaultOf, Follows}
-use Rattle.acl_run.specs.Texts.{WritesText, WhereWhole}
-use Rattle.acl_run.specs.Work.{steps_of, untold_steps, query_finding, ends_at_query, may_end, is_behind_keys, is_behind_input, precedes_input, precedes_output}
-use Rattle.acl_run.specs.Writing.{writing_steps}
+use Rattle.acl_run.specs.WrittenTexts.{WritesText, WhereWhole}
+use Rattle.acl_run.specs.Work.{steps_of, untold_steps, query_finding, ends_at_query, may_end, is_after_keys, is_after_input, precedes_input, precedes_output}
+use Rattle.acl_run.specs.inside.WritingSteps.{writing_steps}
 use Rattle.acl_run.specs.declared.preview.Wanted.{Wanted}
 use Rattle.acl_run.specs.declared.preview.Wanted.TheVariants.{Answer}
 use Rattle.acl_run.proofs.Facts.{on_true, or_no_memory, or_no_memory_so, where_whole}
 use Rattle.acl_run.proofs.Following.{reading_ends, reading_passes, asking_ends, asking_passes, writing_ends}
-use Rattle.acl_run.proofs.Objects.{source-same, source-unblamed, sink-same, sink-unblamed}
+use Rattle.acl_run.proofs.Objects.{source-same, source-no_fault, sink-same, sink-no_fault}
 
 -- ---- at the reading of the rules
 
--- at the reading of the rules: such an end is one of the command
+-- at the reading of the rules: such an end is an end of the command
 pub rules-may_end_so : (what : Shown) (e : End) → IsTrue (ends_reading keys are_rules e) → IsTrue (may_end_from (untold_steps (preview what)) e)
 rules-may_end_so what no_memory h = refl
 rules-may_end_so what (fault keys) h = refl
@@ -34,7 +34,7 @@ rules-may_end_so what (refused a_licence) h = refl
 rules-may_end_so what (refused some_states) h = refl
 rules-may_end_so what e h = absurd (true≢false (sym h))
 
--- nothing is said of a text there
+-- nothing is claimed of a text there
 pub rules-text : (what : Shown) (before : Option (List ℕ)) (after : Option (List ℕ)) (text : List ℕ) (e : End) → IsTrue (ends_reading keys are_rules e) → WritesText e before after text
 rules-text what before after text no_memory h = tt
 rules-text what before after text (fault keys) h = tt
@@ -43,7 +43,7 @@ rules-text what before after text (refused a_licence) h = tt
 rules-text what before after text (refused some_states) h = tt
 rules-text what before after text e h = absurd (true≢false (sym h))
 
--- nor of what is whole
+-- nor of a whole text
 pub rules-whole : (what : Shown) (P : Type 0) (e : End) → IsTrue (ends_reading keys are_rules e) → WhereWhole e P
 rules-whole what P no_memory h = tt
 rules-whole what P (fault keys) h = tt
@@ -52,26 +52,26 @@ rules-whole what P (refused a_licence) h = tt
 rules-whole what P (refused some_states) h = tt
 rules-whole what P e h = absurd (true≢false (sym h))
 
--- no fault of this object ends a run there
-pub rules-unblamed_input : (what : Shown) (e : End) → IsTrue (ends_reading keys are_rules e) → is_fault_of input e ≡ false
-rules-unblamed_input what no_memory h = refl
-rules-unblamed_input what (fault keys) h = refl
-rules-unblamed_input what (refused a_length) h = refl
-rules-unblamed_input what (refused a_licence) h = refl
-rules-unblamed_input what (refused some_states) h = refl
-rules-unblamed_input what e h = absurd (true≢false (sym h))
+-- no run ends there by a fault of this object
+pub rules-no_fault_input : (what : Shown) (e : End) → IsTrue (ends_reading keys are_rules e) → is_fault_of input e ≡ false
+rules-no_fault_input what no_memory h = refl
+rules-no_fault_input what (fault keys) h = refl
+rules-no_fault_input what (refused a_length) h = refl
+rules-no_fault_input what (refused a_licence) h = refl
+rules-no_fault_input what (refused some_states) h = refl
+rules-no_fault_input what e h = absurd (true≢false (sym h))
 
--- no fault of this object ends a run there
-pub rules-unblamed_out : (what : Shown) (e : End) → IsTrue (ends_reading keys are_rules e) → is_fault_of out e ≡ false
-rules-unblamed_out what no_memory h = refl
-rules-unblamed_out what (fault keys) h = refl
-rules-unblamed_out what (refused a_length) h = refl
-rules-unblamed_out what (refused a_licence) h = refl
-rules-unblamed_out what (refused some_states) h = refl
-rules-unblamed_out what e h = absurd (true≢false (sym h))
+-- no run ends there by a fault of this object
+pub rules-no_fault_out : (what : Shown) (e : End) → IsTrue (ends_reading keys are_rules e) → is_fault_of out e ≡ false
+rules-no_fault_out what no_memory h = refl
+rules-no_fault_out what (fault keys) h = refl
+rules-no_fault_out what (refused a_length) h = refl
+rules-no_fault_out what (refused a_licence) h = refl
+rules-no_fault_out what (refused some_states) h = refl
+rules-no_fault_out what e h = absurd (true≢false (sym h))
 
-pub rules-keys_read : (what : Shown) (P : Type 0) (e : End) → IsTrue (ends_reading keys are_rules e) → OnTrue (is_refusal e) P → OnTrue (is_behind_keys (preview what) e) P
-unfolding is_behind_keys
+pub rules-keys_read : (what : Shown) (P : Type 0) (e : End) → IsTrue (ends_reading keys are_rules e) → OnTrue (is_refusal e) P → OnTrue (is_after_keys (preview what) e) P
+unfolding is_after_keys
 rules-keys_read what P no_memory h p = tt
 rules-keys_read what P (fault keys) h p = tt
 rules-keys_read what P (refused a_length) h p = p
@@ -79,8 +79,8 @@ rules-keys_read what P (refused a_licence) h p = p
 rules-keys_read what P (refused some_states) h p = p
 rules-keys_read what P e h p = absurd (true≢false (sym h))
 
-pub rules-input_read : (what : Shown) (P : Type 0) (e : End) → IsTrue (ends_reading keys are_rules e) → OnTrue (is_behind_input (preview what) e) P
-unfolding is_behind_input
+pub rules-input_read : (what : Shown) (P : Type 0) (e : End) → IsTrue (ends_reading keys are_rules e) → OnTrue (is_after_input (preview what) e) P
+unfolding is_after_input
 rules-input_read what P no_memory h = tt
 rules-input_read what P (fault keys) h = tt
 rules-input_read what P (refused a_length) h = tt
@@ -90,7 +90,7 @@ rules-input_read what P e h = absurd (true≢false (sym h))
 
 -- ---- at the reading of the query
 
--- at the reading of the query: such an end is one of the command
+-- at the reading of the query: such an end is an end of the command
 pub query-may_end_so : (what : Shown) (e : End) → IsTrue (ends_at_query what e) → IsTrue (may_end_from (untold_steps (preview what)) e)
 query-may_end_so what no_memory h = refl
 query-may_end_so the_view (refused a_query) h = absurd (true≢false (sym h))
@@ -101,7 +101,7 @@ query-may_end_so (an_answer query) (refused some_states) h = refl
 query-may_end_so an_explanation (refused some_states) h = absurd (true≢false (sym h))
 query-may_end_so what e h = absurd (true≢false (sym h))
 
--- nothing is said of a text there
+-- nothing is claimed of a text there
 pub query-text : (what : Shown) (before : Option (List ℕ)) (after : Option (List ℕ)) (text : List ℕ) (e : End) → IsTrue (ends_at_query what e) → WritesText e before after text
 query-text what before after text no_memory h = tt
 query-text the_view before after text (refused a_query) h = absurd (true≢false (sym h))
@@ -112,7 +112,7 @@ query-text (an_answer query) before after text (refused some_states) h = tt
 query-text an_explanation before after text (refused some_states) h = absurd (true≢false (sym h))
 query-text what before after text e h = absurd (true≢false (sym h))
 
--- nor of what is whole
+-- nor of a whole text
 pub query-whole : (what : Shown) (P : Type 0) (e : End) → IsTrue (ends_at_query what e) → WhereWhole e P
 query-whole what P no_memory h = tt
 query-whole the_view P (refused a_query) h = absurd (true≢false (sym h))
@@ -123,41 +123,41 @@ query-whole (an_answer query) P (refused some_states) h = tt
 query-whole an_explanation P (refused some_states) h = absurd (true≢false (sym h))
 query-whole what P e h = absurd (true≢false (sym h))
 
--- no fault of this object ends a run there
-pub query-unblamed_keys : (what : Shown) (e : End) → IsTrue (ends_at_query what e) → is_fault_of keys e ≡ false
-query-unblamed_keys what no_memory h = refl
-query-unblamed_keys the_view (refused a_query) h = absurd (true≢false (sym h))
-query-unblamed_keys (an_answer query) (refused a_query) h = refl
-query-unblamed_keys an_explanation (refused a_query) h = absurd (true≢false (sym h))
-query-unblamed_keys the_view (refused some_states) h = absurd (true≢false (sym h))
-query-unblamed_keys (an_answer query) (refused some_states) h = refl
-query-unblamed_keys an_explanation (refused some_states) h = absurd (true≢false (sym h))
-query-unblamed_keys what e h = absurd (true≢false (sym h))
+-- no run ends there by a fault of this object
+pub query-no_fault_keys : (what : Shown) (e : End) → IsTrue (ends_at_query what e) → is_fault_of keys e ≡ false
+query-no_fault_keys what no_memory h = refl
+query-no_fault_keys the_view (refused a_query) h = absurd (true≢false (sym h))
+query-no_fault_keys (an_answer query) (refused a_query) h = refl
+query-no_fault_keys an_explanation (refused a_query) h = absurd (true≢false (sym h))
+query-no_fault_keys the_view (refused some_states) h = absurd (true≢false (sym h))
+query-no_fault_keys (an_answer query) (refused some_states) h = refl
+query-no_fault_keys an_explanation (refused some_states) h = absurd (true≢false (sym h))
+query-no_fault_keys what e h = absurd (true≢false (sym h))
 
--- no fault of this object ends a run there
-pub query-unblamed_input : (what : Shown) (e : End) → IsTrue (ends_at_query what e) → is_fault_of input e ≡ false
-query-unblamed_input what no_memory h = refl
-query-unblamed_input the_view (refused a_query) h = absurd (true≢false (sym h))
-query-unblamed_input (an_answer query) (refused a_query) h = refl
-query-unblamed_input an_explanation (refused a_query) h = absurd (true≢false (sym h))
-query-unblamed_input the_view (refused some_states) h = absurd (true≢false (sym h))
-query-unblamed_input (an_answer query) (refused some_states) h = refl
-query-unblamed_input an_explanation (refused some_states) h = absurd (true≢false (sym h))
-query-unblamed_input what e h = absurd (true≢false (sym h))
+-- no run ends there by a fault of this object
+pub query-no_fault_input : (what : Shown) (e : End) → IsTrue (ends_at_query what e) → is_fault_of input e ≡ false
+query-no_fault_input what no_memory h = refl
+query-no_fault_input the_view (refused a_query) h = absurd (true≢false (sym h))
+query-no_fault_input (an_answer query) (refused a_query) h = refl
+query-no_fault_input an_explanation (refused a_query) h = absurd (true≢false (sym h))
+query-no_fault_input the_view (refused some_states) h = absurd (true≢false (sym h))
+query-no_fault_input (an_answer query) (refused some_states) h = refl
+query-no_fault_input an_explanation (refused some_states) h = absurd (true≢false (sym h))
+query-no_fault_input what e h = absurd (true≢false (sym h))
 
--- no fault of this object ends a run there
-pub query-unblamed_out : (what : Shown) (e : End) → IsTrue (ends_at_query what e) → is_fault_of out e ≡ false
-query-unblamed_out what no_memory h = refl
-query-unblamed_out the_view (refused a_query) h = absurd (true≢false (sym h))
-query-unblamed_out (an_answer query) (refused a_query) h = refl
-query-unblamed_out an_explanation (refused a_query) h = absurd (true≢false (sym h))
-query-unblamed_out the_view (refused some_states) h = absurd (true≢false (sym h))
-query-unblamed_out (an_answer query) (refused some_states) h = refl
-query-unblamed_out an_explanation (refused some_states) h = absurd (true≢false (sym h))
-query-unblamed_out what e h = absurd (true≢false (sym h))
+-- no run ends there by a fault of this object
+pub query-no_fault_out : (what : Shown) (e : End) → IsTrue (ends_at_query what e) → is_fault_of out e ≡ false
+query-no_fault_out what no_memory h = refl
+query-no_fault_out the_view (refused a_query) h = absurd (true≢false (sym h))
+query-no_fault_out (an_answer query) (refused a_query) h = refl
+query-no_fault_out an_explanation (refused a_query) h = absurd (true≢false (sym h))
+query-no_fault_out the_view (refused some_states) h = absurd (true≢false (sym h))
+query-no_fault_out (an_answer query) (refused some_states) h = refl
+query-no_fault_out an_explanation (refused some_states) h = absurd (true≢false (sym h))
+query-no_fault_out what e h = absurd (true≢false (sym h))
 
-pub query-input_read : (what : Shown) (P : Type 0) (e : End) → IsTrue (ends_at_query what e) → OnTrue (is_behind_input (preview what) e) P
-unfolding is_behind_input
+pub query-input_read : (what : Shown) (P : Type 0) (e : End) → IsTrue (ends_at_query what e) → OnTrue (is_after_input (preview what) e) P
+unfolding is_after_input
 query-input_read what P no_memory h = tt
 query-input_read the_view P (refused a_query) h = absurd (true≢false (sym h))
 query-input_read (an_answer query) P (refused a_query) h = tt
@@ -169,7 +169,7 @@ query-input_read what P e h = absurd (true≢false (sym h))
 
 -- ---- at the reading of the document
 
--- at the reading of the document: such an end is one of the command
+-- at the reading of the document: such an end is an end of the command
 pub document-may_end_so : (what : Shown) (e : End) → IsTrue (ends_reading input is_document e) → IsTrue (may_end_from (untold_steps (preview what)) e)
 document-may_end_so what no_memory h = refl
 document-may_end_so what (fault input) h = refl
@@ -177,7 +177,7 @@ document-may_end_so what (refused a_length) h = refl
 document-may_end_so what (refused a_document) h = refl
 document-may_end_so what e h = absurd (true≢false (sym h))
 
--- nothing is said of a text there
+-- nothing is claimed of a text there
 pub document-text : (what : Shown) (before : Option (List ℕ)) (after : Option (List ℕ)) (text : List ℕ) (e : End) → IsTrue (ends_reading input is_document e) → WritesText e before after text
 document-text what before after text no_memory h = tt
 document-text what before after text (fault input) h = tt
@@ -185,7 +185,7 @@ document-text what before after text (refused a_length) h = tt
 document-text what before after text (refused a_document) h = tt
 document-text what before after text e h = absurd (true≢false (sym h))
 
--- nor of what is whole
+-- nor of a whole text
 pub document-whole : (what : Shown) (P : Type 0) (e : End) → IsTrue (ends_reading input is_document e) → WhereWhole e P
 document-whole what P no_memory h = tt
 document-whole what P (fault input) h = tt
@@ -193,24 +193,24 @@ document-whole what P (refused a_length) h = tt
 document-whole what P (refused a_document) h = tt
 document-whole what P e h = absurd (true≢false (sym h))
 
--- no fault of this object ends a run there
-pub document-unblamed_keys : (what : Shown) (e : End) → IsTrue (ends_reading input is_document e) → is_fault_of keys e ≡ false
-document-unblamed_keys what no_memory h = refl
-document-unblamed_keys what (fault input) h = refl
-document-unblamed_keys what (refused a_length) h = refl
-document-unblamed_keys what (refused a_document) h = refl
-document-unblamed_keys what e h = absurd (true≢false (sym h))
+-- no run ends there by a fault of this object
+pub document-no_fault_keys : (what : Shown) (e : End) → IsTrue (ends_reading input is_document e) → is_fault_of keys e ≡ false
+document-no_fault_keys what no_memory h = refl
+document-no_fault_keys what (fault input) h = refl
+document-no_fault_keys what (refused a_length) h = refl
+document-no_fault_keys what (refused a_document) h = refl
+document-no_fault_keys what e h = absurd (true≢false (sym h))
 
--- no fault of this object ends a run there
-pub document-unblamed_out : (what : Shown) (e : End) → IsTrue (ends_reading input is_document e) → is_fault_of out e ≡ false
-document-unblamed_out what no_memory h = refl
-document-unblamed_out what (fault input) h = refl
-document-unblamed_out what (refused a_length) h = refl
-document-unblamed_out what (refused a_document) h = refl
-document-unblamed_out what e h = absurd (true≢false (sym h))
+-- no run ends there by a fault of this object
+pub document-no_fault_out : (what : Shown) (e : End) → IsTrue (ends_reading input is_document e) → is_fault_of out e ≡ false
+document-no_fault_out what no_memory h = refl
+document-no_fault_out what (fault input) h = refl
+document-no_fault_out what (refused a_length) h = refl
+document-no_fault_out what (refused a_document) h = refl
+document-no_fault_out what e h = absurd (true≢false (sym h))
 
-pub document-input_read : (what : Shown) (P : Type 0) (e : End) → IsTrue (ends_reading input is_document e) → OnTrue (is_refusal e) P → OnTrue (is_behind_input (preview what) e) P
-unfolding is_behind_input
+pub document-input_read : (what : Shown) (P : Type 0) (e : End) → IsTrue (ends_reading input is_document e) → OnTrue (is_refusal e) P → OnTrue (is_after_input (preview what) e) P
+unfolding is_after_input
 document-input_read what P no_memory h p = tt
 document-input_read what P (fault input) h p = tt
 document-input_read what P (refused a_length) h p = tt
@@ -227,26 +227,26 @@ document-unread what P e h = absurd (true≢false (sym h))
 
 -- ---- at the writing of what is shown
 
--- at the writing of what is shown: such an end is one of the command
+-- at the writing of what is shown: such an end is an end of the command
 pub showing-may_end_so : (what : Shown) (e : End) → IsTrue (may_end_from writing_steps e) → IsTrue (may_end_from (untold_steps (preview what)) e)
 showing-may_end_so what done h = refl
 showing-may_end_so what no_memory h = refl
 showing-may_end_so what (fault out) h = refl
 showing-may_end_so what e h = absurd (true≢false (sym h))
 
--- no fault of this object ends a run there
-pub showing-unblamed_keys : (what : Shown) (e : End) → IsTrue (may_end_from writing_steps e) → is_fault_of keys e ≡ false
-showing-unblamed_keys what done h = refl
-showing-unblamed_keys what no_memory h = refl
-showing-unblamed_keys what (fault out) h = refl
-showing-unblamed_keys what e h = absurd (true≢false (sym h))
+-- no run ends there by a fault of this object
+pub showing-no_fault_keys : (what : Shown) (e : End) → IsTrue (may_end_from writing_steps e) → is_fault_of keys e ≡ false
+showing-no_fault_keys what done h = refl
+showing-no_fault_keys what no_memory h = refl
+showing-no_fault_keys what (fault out) h = refl
+showing-no_fault_keys what e h = absurd (true≢false (sym h))
 
--- no fault of this object ends a run there
-pub showing-unblamed_input : (what : Shown) (e : End) → IsTrue (may_end_from writing_steps e) → is_fault_of input e ≡ false
-showing-unblamed_input what done h = refl
-showing-unblamed_input what no_memory h = refl
-showing-unblamed_input what (fault out) h = refl
-showing-unblamed_input what e h = absurd (true≢false (sym h))
+-- no run ends there by a fault of this object
+pub showing-no_fault_input : (what : Shown) (e : End) → IsTrue (may_end_from writing_steps e) → is_fault_of input e ≡ false
+showing-no_fault_input what done h = refl
+showing-no_fault_input what no_memory h = refl
+showing-no_fault_input what (fault out) h = refl
+showing-no_fault_input what e h = absurd (true≢false (sym h))
 
 pub showing-unread : (what : Shown) (P : Type 0) (e : End) → IsTrue (may_end_from writing_steps e) → OnTrue (precedes_input (preview what) e) P
 unfolding precedes_input
@@ -282,13 +282,13 @@ showing-may_end what o h = showing-may_end_so what (end_of o) h
 
 -- ---- the query
 
--- where no query is to be answered, memory alone may be wanting
+-- where there is no query, a run ends at its reading by out of memory alone
 pub nothing_asked : (e : End) (later : Type 0) → IsTrue (may_end_in (asks is_query good ∷ []) e) → OrNoMemory e later
 nothing_asked no_memory later h = tt
 nothing_asked (refused some_states) later h = absurd (true≢false (sym h))
 nothing_asked e later h = absurd (true≢false (sym h))
 
--- an answer is wanted where the query was read as a path
+-- an answer is wanted only where the query was read as a path
 pub answer_read : (r : Result Path Outcome) (wanted : Wanted) → result_map_both Answer (λ refusal. refusal) r ≡ Ok wanted → (path : Path) × (r ≡ Ok path)
 answer_read (Ok path) wanted h = (path, refl)
 answer_read (Err o) wanted h = absurd (cc)
@@ -334,49 +334,49 @@ query_passes an_explanation kl licence wanted o steps licence_is is later = or_n
 
 -- ---- the order of work
 
--- the steps behind the reading of the rules, of the query, and of the document
-abbrev behind_query : Option (List ℕ) → List Step
-behind_query ql = reads input ∷ asks is_document (finding_of document_of ql) ∷ writing_steps
+-- the steps after the reading of the rules, of the query, and of the document
+abbrev after_query : Option (List ℕ) → List Step
+after_query ql = reads input ∷ asks is_document (finding_of document_of ql) ∷ writing_steps
 
-abbrev behind_rules : Shown → Option (List ℕ) → Option (List ℕ) → List Step
-behind_rules what kl ql = asks is_query (query_finding what kl) ∷ behind_query ql
+abbrev after_rules : Shown → Option (List ℕ) → Option (List ℕ) → List Step
+after_rules what kl ql = asks is_query (query_finding what kl) ∷ after_query ql
 
--- it ends at the reading of the rules
+-- the run ends at the reading of the rules
 pub ends_at_rules : (what : Shown) (kl ql : Option (List ℕ)) (o : Outcome) → IsTrue (ends_reading keys are_rules (end_of o))
     → IfSome kl (λ bytes. OrNoMemory (end_of o) (OrFaultOf keys (end_of o) (licence_of bytes ≡ Err o)))
     → Follows (steps_of (preview what) kl ql) o
-ends_at_rules what kl ql o h w = reading_ends keys are_rules licence_of kl o (behind_rules what kl ql) h w
+ends_at_rules what kl ql o h w = reading_ends keys are_rules licence_of kl o (after_rules what kl ql) h w
 
--- it ends at the reading of the query
+-- the run ends at the reading of the query
 pub ends_at_wanted : (what : Shown) (kl ql : Option (List ℕ)) (licence : Licence) (o : Outcome) → IfSome kl (λ bytes. licence_of bytes ≡ Ok licence)
     → IsTrue (ends_at_query what (end_of o)) → OrNoMemory (end_of o) (wanted_by licence.user what ≡ Err o)
     → Follows (steps_of (preview what) kl ql) o
 ends_at_wanted what kl ql licence o licence_is h w =
-    reading_passes keys are_rules licence_of kl licence o (behind_rules what kl ql) licence_is
-    (query_ends what kl licence o (behind_query ql) licence_is h w)
+    reading_passes keys are_rules licence_of kl licence o (after_rules what kl ql) licence_is
+    (query_ends what kl licence o (after_query ql) licence_is h w)
 
--- it ends at the reading of the document
+-- the run ends at the reading of the document
 pub ends_at_document : (what : Shown) (kl ql : Option (List ℕ)) (licence : Licence) (wanted : Wanted) (o : Outcome) → IfSome kl (λ bytes. licence_of bytes ≡ Ok licence)
     → wanted_by licence.user what ≡ Ok wanted → IsTrue (ends_reading input is_document (end_of o))
     → IfSome ql (λ bytes. OrNoMemory (end_of o) (OrFaultOf input (end_of o) (document_of bytes ≡ Err o)))
     → Follows (steps_of (preview what) kl ql) o
 ends_at_document what kl ql licence wanted o licence_is wanted_is h w =
-    reading_passes keys are_rules licence_of kl licence o (behind_rules what kl ql) licence_is
-    (query_passes what kl licence wanted o (behind_query ql) licence_is wanted_is
+    reading_passes keys are_rules licence_of kl licence o (after_rules what kl ql) licence_is
+    (query_passes what kl licence wanted o (after_query ql) licence_is wanted_is
     (reading_ends input is_document document_of ql o writing_steps h w))
 
--- it ends behind all that is read
+-- the run ends after everything was read
 pub ends_at_showing : (what : Shown) (kl ql : Option (List ℕ)) (licence : Licence) (wanted : Wanted) (d : Doc) (o : Outcome) → IfSome kl (λ bytes. licence_of bytes ≡ Ok licence)
     → wanted_by licence.user what ≡ Ok wanted → IfSome ql (λ bytes. document_of bytes ≡ Ok d)
     → IsTrue (may_end_from writing_steps (end_of o)) → Follows (steps_of (preview what) kl ql) o
 ends_at_showing what kl ql licence wanted d o licence_is wanted_is document_is h =
-    reading_passes keys are_rules licence_of kl licence o (behind_rules what kl ql) licence_is
-    (query_passes what kl licence wanted o (behind_query ql) licence_is wanted_is
+    reading_passes keys are_rules licence_of kl licence o (after_rules what kl ql) licence_is
+    (query_passes what kl licence wanted o (after_query ql) licence_is wanted_is
     (reading_passes input is_document document_of ql d o writing_steps document_is (writing_ends o (end_of o) h)))
 
 -- ---- the text
 
--- what holds of the text that was made holds of the text that is due
+-- a fact about the text that was made is one about the text that is due
 pub due_is_made : (what : Shown) (kl ql : Option (List ℕ)) (licence : Licence) (wanted : Wanted) (d : Doc) (P : List ℕ → Type 0) → IfSome kl (λ bytes. licence_of bytes ≡ Ok licence)
     → wanted_by licence.user what ≡ Ok wanted → IfSome ql (λ bytes. document_of bytes ≡ Ok d) → P (wanted_text d licence.rules wanted)
     → IfSome kl (λ rules. IfSome ql (λ lines. P (preview_text what rules lines)))
@@ -385,4 +385,4 @@ due_is_made what (Some rules) None licence wanted d P licence_is wanted_is docum
 due_is_made what (Some rules) (Some lines) licence wanted d P licence_is wanted_is document_is p = rw (licence_is, document_is, wanted_is) p
 
 -- for the command
-pub ruleset steps = (on_true, where_whole, source-same, source-unblamed, sink-same, sink-unblamed, rules-text, rules-whole, rules-unblamed_input, rules-unblamed_out, rules-keys_read, rules-input_read, query-text, query-whole, query-unblamed_keys, query-unblamed_input, query-unblamed_out, query-input_read, document-text, document-whole, document-unblamed_keys, document-unblamed_out, document-input_read, document-unread, showing-unblamed_keys, showing-unblamed_input, showing-unread, showing-unwritten, rules-may_end, query-may_end, document-may_end, showing-may_end)
+pub ruleset steps = (on_true, where_whole, source-same, source-no_fault, sink-same, sink-no_fault, rules-text, rules-whole, rules-no_fault_input, rules-no_fault_out, rules-keys_read, rules-input_read, query-text, query-whole, query-no_fault_keys, query-no_fault_input, query-no_fault_out, query-input_read, document-text, document-whole, document-no_fault_keys, document-no_fault_out, document-input_read, document-unread, showing-no_fault_keys, showing-no_fault_input, showing-unread, showing-unwritten, rules-may_end, query-may_end, document-may_end, showing-may_end)

@@ -1,4 +1,4 @@
--- How `sample` keeps its promises, end by end.
+-- How `sample` keeps its contract, for each way in which it ends.
 use Rattle.std.proofs.Common.{ℕ, IsTrue, refl}
 use Rattle.std.specs.Bool.{OnTrue}
 use Rattle.acl_outcome.specs.declared.outcome.Outcome.TheVariants.{Done, NoMemory, NoteFault, SinkFault}
@@ -6,7 +6,7 @@ use Rattle.acl_outcome.specs.Ends.{out, note, done, fault}
 use Rattle.acl_words.specs.Command.{sample}
 use Rattle.acl_run.specs.Work.{may_end, precedes_output, precedes_note}
 use Rattle.acl_run.proofs.Facts.{on_true}
-use Rattle.acl_run.proofs.Objects.{sink-same, sink-unblamed}
+use Rattle.acl_run.proofs.Objects.{sink-same, sink-no_fault}
 
 -- ---- the outcomes
 
@@ -26,7 +26,7 @@ pub sample-note_fault : (n : ℕ) → IsTrue (may_end (sample n) NoteFault)
 unfolding may_end
 sample-note_fault n = refl
 
--- ---- behind the first byte
+-- ---- after the first byte
 
 pub done-unwritten : (n : ℕ) (P : Type 0) → OnTrue (precedes_output (sample n) done) P
 unfolding precedes_output
@@ -49,4 +49,4 @@ unfolding precedes_note
 note_fault-unnoted n P = tt
 
 -- for the command
-pub ruleset steps = (on_true, sink-same, sink-unblamed, sample-done, sample-no_memory, sample-sink_fault, sample-note_fault, done-unwritten, out_fault-unwritten, note_fault-unwritten, done-unnoted, note_fault-unnoted)
+pub ruleset steps = (on_true, sink-same, sink-no_fault, sample-done, sample-no_memory, sample-sink_fault, sample-note_fault, done-unwritten, out_fault-unwritten, note_fault-unwritten, done-unnoted, note_fault-unnoted)

@@ -1,4 +1,4 @@
--- What the reads of a store show of a run's end, whatever root and key it had.
+-- What the reads of a store show about the end of a run, without its root and key.
 use Rattle.std.proofs.Common.{◌≡◌, ℕ, Bool, true, false, Option, Result, Ok, Err, List, [], ◌∷◌, IsTrue, refl, sym}
 use Rattle.std.proofs.Common.{subst, true≢false}
 use Rattle.std.specs.Bool.{OnTrue}
@@ -11,16 +11,16 @@ use Rattle.acl_outcome.specs.declared.outcome.Outcome.{Outcome}
 use Rattle.acl_outcome.specs.Ends.{keys, input, store, out, note, a_length, a_document, a_seal, a_licence}
 use Rattle.acl_outcome.specs.Ends.{some_states, a_query, some_keys, a_size}
 use Rattle.acl_outcome.specs.Ends.{End, done, no_memory, usage, fault, stopped, refused, end_of}
-use Rattle.fragment_open.specs.Checked.{AreOpeningsChecked}
+use Rattle.fragment_open.specs.Checked.{AllFoldUnlessRefused}
 use Rattle.fragment_open.specs.Openings.{openings}
-use Rattle.fragment_open.specs.Told.{Told}
+use Rattle.fragment_open.specs.CallReads.{Told}
 use Rattle.fragment_open.proofs.CheckedLemmas.{unopened-checked, unrefused-checked}
 use Rattle.fragment_open.proofs.ClimbLemmas.{Told-none, Told-weaker}
 use Rattle.file_reading.specs.FileEnds.{IsFileCause, IsShown}
 use Rattle.acl_words.specs.Command.{Shown, preview, encode, seal, sample}
 use Rattle.acl_run.specs.Headline.{HasServedCause, HasStoreCause, IsRefusedAsServed, IsRefusedAsShown, IsServedCause}
 use Rattle.acl_run.specs.Headline.{IsServedFault, is_store_end}
-use Rattle.acl_run.specs.Opening.{IsStoreRefused, StoreEnds}
+use Rattle.acl_run.specs.inside.Opening.{IsStoreRefused, StoreEnds}
 use Rattle.acl_run.specs.Outcomes.{outcome_of_read_fault}
 use Rattle.acl_run.specs.Steps.{may_end_from}
 use Rattle.acl_run.specs.Work.{may_end, untold_steps}
@@ -39,12 +39,12 @@ served_cause StoreFault root key reads why = why
 served_cause (BadFragment index want made) root key reads why = (why.1, why.2, why.3, why.4, why.5)
 served_cause BadIndex root key reads why = (why.0, (root, key, why.2))
 
--- what follows under a test
+-- a fact under a test may be replaced by one that it implies
 under : (b : Bool) (P Q : Type 0) → (P → Q) → OnTrue b P → OnTrue b Q
 under true P Q f p = f p
 under false P Q f p = tt
 
--- a cause under a root and a key has a part that the reads alone say
+-- a cause under a root and a key has a part that the reads show without them
 cause_served : (o : Outcome) (root key : List ℕ) (reads : List StoreRead) → HasStoreCause o root key reads
     → HasServedCause o reads
 cause_served o root key reads =
@@ -55,20 +55,20 @@ pub refusal_served : (o : Outcome) (root key : List ℕ) (reads : List StoreRead
     → HasServedCause o reads
 refusal_served o root key reads ends = cause_served o root key reads (refusal_cause o root key reads ends)
 
--- the outcome speaks of something else
+-- the outcome is neither a fault of the store nor a refusal of its bytes
 pub served_anyway : (o : Outcome) (a b : Option (List StoreRead)) (Q : List StoreRead → Type 0)
     → is_store_end (end_of o) ≡ false → Told a b Q → Told a b (HasServedCause o)
 served_anyway o a b Q other told =
     Told-weaker a b Q (HasServedCause o) told (λ reads q. store_cause_of_none (is_store_end (end_of o)) _ other)
 
--- the store was not asked
+-- the store was not read
 pub served_unasked : (o : Outcome) (a : Option (List StoreRead)) → is_store_end (end_of o) ≡ false
     → Told a a (HasServedCause o)
 served_unasked o a other = Told-none a (HasServedCause o) (store_cause_of_none (is_store_end (end_of o)) _ other)
 
 -- ---- what is shown
 
--- what the reads alone show is shown under each root and key
+-- what the reads show without root and key, they show under each root and key
 shown_by : (f : ReadFault) (root key : List ℕ) (reads : List StoreRead) → IsServedFault f reads
     → IsShown root key f reads
 shown_by BadHeader root key reads shown = shown
@@ -88,12 +88,12 @@ pub refused_alone : (o : Outcome) (root key : List ℕ) (reads : List StoreRead)
     → IsStoreRefused (Err o) root key reads → IsRefusedAsServed o reads
 refused_alone o root key reads exact = alone o root key reads (refused_so o root key reads exact)
 
--- it was not
+-- the store was not refused
 pub unrefused_alone : (d : Doc) (o : Outcome) (root key : List ℕ) (reads : List StoreRead)
     → IsStoreRefused (Ok d) root key reads → IsRefusedAsServed o reads
 unrefused_alone d o root key reads exact = alone o root key reads (unrefused_so d o root key reads exact)
 
--- no reads show nothing
+-- an empty list of reads shows nothing
 pub unrefused_unasked : (o : Outcome) (a : Option (List StoreRead)) → Told a a (IsRefusedAsServed o)
 unrefused_unasked o a =
     Told-none a (IsRefusedAsServed o) (λ f shown. absurd (nothing_shown [] [] f (shown_by f [] [] [] shown)))
@@ -104,14 +104,14 @@ none_opened : openings [] ≡ []
 unfolding openings
 none_opened = refl
 
--- a store that was not asked opened no fragment
-pub unasked_checked : (bad : Bool) (a : Option (List StoreRead)) → Told a a (AreOpeningsChecked bad)
-unasked_checked bad a = Told-none a (AreOpeningsChecked bad) (unopened-checked [] bad none_opened)
+-- no fragment of a store that was not read was opened
+pub unasked_checked : (bad : Bool) (a : Option (List StoreRead)) → Told a a (AllFoldUnlessRefused bad)
+unasked_checked bad a = Told-none a (AllFoldUnlessRefused bad) (unopened-checked [] bad none_opened)
 
 -- no fragment was refused
-pub checked_anyway : (bad : Bool) (a b : Option (List StoreRead)) → Told a b (AreOpeningsChecked false) → Told a b (AreOpeningsChecked bad)
+pub checked_anyway : (bad : Bool) (a b : Option (List StoreRead)) → Told a b (AllFoldUnlessRefused false) → Told a b (AllFoldUnlessRefused bad)
 checked_anyway bad a b told =
-    Told-weaker a b (AreOpeningsChecked false) (AreOpeningsChecked bad) told (λ reads checked. unrefused-checked reads bad checked)
+    Told-weaker a b (AllFoldUnlessRefused false) (AllFoldUnlessRefused bad) told (λ reads checked. unrefused-checked reads bad checked)
 
 -- ---- commands that open no store
 

@@ -1,4 +1,4 @@
--- That `view` and `explain` go by their steps.
+-- `view` and `explain` follow their steps.
 use Rattle.std.proofs.Common.{◌≡◌, ℕ, Option, Some, None, Result, Ok, Err, List, [], ◌∷◌, IsTrue, IfSome, refl, sym, ap, ◌∙◌, subst, true≢false}
 use Rattle.acl_model.specs.declared.path.Path.{Path}
 use Rattle.licence.specs.declared.keys.Keys.{Keys}
@@ -8,13 +8,13 @@ use Rattle.acl_outcome.specs.declared.outcome.Outcome.{Outcome}
 use Rattle.acl_outcome.specs.Ends.{keys, input, store, End, done, no_memory, usage, fault, stopped, refused, is_same, end_of}
 use Rattle.acl_run.specs.declared.preview.Wanted.{Wanted}
 use Rattle.acl_words.specs.Command.{Shown, the_view, an_answer, an_explanation, view}
-use Rattle.acl_run.specs.Opening.{ends_opening}
+use Rattle.acl_run.specs.inside.Opening.{ends_opening}
 use Rattle.acl_run.specs.Preview.{wanted_by}
 use Rattle.acl_run.specs.Readers.{keys_of, sealed_licence_of, query_of}
-use Rattle.acl_run.specs.Reading.{ends_reading}
+use Rattle.acl_run.specs.inside.SourceSteps.{ends_reading}
 use Rattle.acl_run.specs.Steps.{Step, reads, asks, opens, are_keys, is_licence, is_query, finding_of, is_of_store, may_end_from, EndsAtOr, Follows, OrNoMemory, OrFaultOf, OrStoreRefusal}
 use Rattle.acl_run.specs.Work.{steps_of, licence_finding, sealed_query_finding, ends_at_query}
-use Rattle.acl_run.specs.Writing.{writing_steps}
+use Rattle.acl_run.specs.inside.WritingSteps.{writing_steps}
 use Rattle.acl_run.proofs.Facts.{on_false, on_false-true, or_false, or_no_memory, or_no_memory_so, or_fault_of}
 use Rattle.acl_run.proofs.Following.{asking_ends, asking_passes, reading_ends, reading_passes, writing_ends}
 use Rattle.acl_run.proofs.PreviewSteps.{answer_read, answer_refused, nothing_asked}
@@ -39,7 +39,7 @@ opening_so o e later h = absurd (true≢false (sym h))
 opening_stops : (o : Outcome) (steps : List Step) → IsTrue (ends_opening (end_of o)) → Follows (opens ∷ steps) o
 opening_stops o steps h = opening_so o (end_of o) (Follows steps o) h
 
--- a run that goes on behind it
+-- a run that goes on after it
 opening_passes : (o : Outcome) (steps : List Step) → Follows steps o → Follows (opens ∷ steps) o
 opening_passes o steps later = or_no_memory (end_of o) (or_fault_of store (end_of o) (or_store_refusal (end_of o) later))
 
@@ -112,20 +112,20 @@ query_passes an_explanation kl ql secret licence wanted o steps keys_is is read 
 
 -- ---- the order of work
 
-abbrev behind_query : List Step
-behind_query = opens ∷ writing_steps
+abbrev after_query : List Step
+after_query = opens ∷ writing_steps
 
-abbrev behind_licence : Shown → Option (List ℕ) → Option (List ℕ) → List Step
-behind_licence what kl ql = asks is_query (sealed_query_finding what kl ql) ∷ behind_query
+abbrev after_licence : Shown → Option (List ℕ) → Option (List ℕ) → List Step
+after_licence what kl ql = asks is_query (sealed_query_finding what kl ql) ∷ after_query
 
-abbrev behind_keys : Shown → Option (List ℕ) → Option (List ℕ) → List Step
-behind_keys what kl ql = reads input ∷ asks is_licence (licence_finding kl ql) ∷ behind_licence what kl ql
+abbrev after_keys : Shown → Option (List ℕ) → Option (List ℕ) → List Step
+after_keys what kl ql = reads input ∷ asks is_licence (licence_finding kl ql) ∷ after_licence what kl ql
 
--- it ends at the reading of the keys
+-- the run ends at the reading of the keys
 pub ends_at_keys : (what : Shown) (kl ql : Option (List ℕ)) (o : Outcome) → IsTrue (ends_reading keys are_keys (end_of o))
     → IfSome kl (λ bytes. OrNoMemory (end_of o) (OrFaultOf keys (end_of o) (keys_of bytes ≡ Err o)))
     → Follows (steps_of (view what) kl ql) o
-ends_at_keys what kl ql o h w = reading_ends keys are_keys keys_of kl o (behind_keys what kl ql) h w
+ends_at_keys what kl ql o h w = reading_ends keys are_keys keys_of kl o (after_keys what kl ql) h w
 
 module _ (what : Shown) (kl ql : Option (List ℕ)) (secret : Keys) (o : Outcome) (keys_is : IfSome kl (λ bytes. keys_of bytes ≡ Ok secret)) where
   -- at the reading of the licence
@@ -133,28 +133,28 @@ module _ (what : Shown) (kl ql : Option (List ℕ)) (secret : Keys) (o : Outcome
       → IfSome ql (λ bytes. OrNoMemory (end_of o) (OrFaultOf input (end_of o) (sealed_licence_of secret.seal bytes ≡ Err o)))
       → Follows (steps_of (view what) kl ql) o
   ends_at_licence h w =
-      reading_passes keys are_keys keys_of kl secret o (behind_keys what kl ql) keys_is
-      (licence_ends kl ql secret o (behind_licence what kl ql) keys_is h w)
+      reading_passes keys are_keys keys_of kl secret o (after_keys what kl ql) keys_is
+      (licence_ends kl ql secret o (after_licence what kl ql) keys_is h w)
 
   module _ (licence : Licence) (licence_is : IfSome ql (λ bytes. sealed_licence_of secret.seal bytes ≡ Ok licence)) where
     -- at the reading of the query
     pub ends_at_wanted : IsTrue (ends_at_query what (end_of o)) → OrNoMemory (end_of o) (wanted_by licence.user what ≡ Err o) → Follows (steps_of (view what) kl ql) o
     ends_at_wanted h w =
-        reading_passes keys are_keys keys_of kl secret o (behind_keys what kl ql) keys_is
-        (licence_passes kl ql secret licence o (behind_licence what kl ql) keys_is licence_is
-        (query_ends what kl ql secret licence o behind_query keys_is licence_is h w))
+        reading_passes keys are_keys keys_of kl secret o (after_keys what kl ql) keys_is
+        (licence_passes kl ql secret licence o (after_licence what kl ql) keys_is licence_is
+        (query_ends what kl ql secret licence o after_query keys_is licence_is h w))
 
     -- at the opening of the store
     pub ends_at_opening : (wanted : Wanted) → wanted_by licence.user what ≡ Ok wanted → IsTrue (ends_opening (end_of o)) → Follows (steps_of (view what) kl ql) o
     ends_at_opening wanted wanted_is h =
-        reading_passes keys are_keys keys_of kl secret o (behind_keys what kl ql) keys_is
-        (licence_passes kl ql secret licence o (behind_licence what kl ql) keys_is licence_is
-        (query_passes what kl ql secret licence wanted o behind_query keys_is licence_is wanted_is (opening_stops o writing_steps h)))
+        reading_passes keys are_keys keys_of kl secret o (after_keys what kl ql) keys_is
+        (licence_passes kl ql secret licence o (after_licence what kl ql) keys_is licence_is
+        (query_passes what kl ql secret licence wanted o after_query keys_is licence_is wanted_is (opening_stops o writing_steps h)))
 
-    -- behind all that is read
+    -- after all that is read
     pub ends_at_showing : (wanted : Wanted) → wanted_by licence.user what ≡ Ok wanted → IsTrue (may_end_from writing_steps (end_of o)) → Follows (steps_of (view what) kl ql) o
     ends_at_showing wanted wanted_is h =
-        reading_passes keys are_keys keys_of kl secret o (behind_keys what kl ql) keys_is
-        (licence_passes kl ql secret licence o (behind_licence what kl ql) keys_is licence_is
-        (query_passes what kl ql secret licence wanted o behind_query keys_is licence_is wanted_is
+        reading_passes keys are_keys keys_of kl secret o (after_keys what kl ql) keys_is
+        (licence_passes kl ql secret licence o (after_licence what kl ql) keys_is licence_is
+        (query_passes what kl ql secret licence wanted o after_query keys_is licence_is wanted_is
         (opening_passes o writing_steps (writing_ends o (end_of o) h))))

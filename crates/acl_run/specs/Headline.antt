@@ -1,4 +1,6 @@
--- What `view` and `explain` promise of a store that nobody trusts. This project's own.
+-- What `view` and `explain` promise of a store that nobody trusts. Defined by this project. A text is *due* of a
+-- document where the command is to write it for that document. An *opening* is the reads of one fragment. It *folds*
+-- to the digest that the fragment and the digests beside its way up the tree lead to.
 use Rattle.std.specs.Prelude.{◌≡◌, ◌≢◌, ℕ, Bool, true, false, is_some, Option, Some, None, option_map, option_and_then, Result, Ok, Err, List, [], ◌∷◌, map}
 use Rattle.std.specs.Bool.{OnTrue}
 use Rattle.std.specs.Io.KnownBytes.{Appends}
@@ -19,7 +21,7 @@ use Rattle.fragment_open.specs.Hashed.{folded, wanted}
 use Rattle.fragment_open.specs.Openings.{indexes}
 use Rattle.fragment_open.specs.Served.{header_served, root_served, whole}
 use Rattle.fragment_open.specs.Starting.{AreOfStart, HoldsDocument}
-use Rattle.fragment_open.specs.Told.{IsCut, is_whole}
+use Rattle.fragment_open.specs.CallReads.{IsCut, is_whole}
 use Rattle.licence.specs.declared.keys.Keys.{Keys}
 use Rattle.licence.specs.declared.terms.Licence.{Licence}
 use Rattle.merkle_chunks.specs.File.{HasRoot, file_root}
@@ -31,22 +33,23 @@ use Rattle.acl_run.specs.Outcomes.{IsOfNoDocument, outcome_of_read_fault}
 use Rattle.acl_run.specs.Readers.{keys_of, sealed_licence_of}
 use Rattle.acl_run.specs.Steps.{is_of_store}
 
--- The fact holds of keys, a licence and what is wanted, where that can be read.
+-- Where what is wanted was read, the fact is true of the keys, the licence and what is wanted. Else nothing is claimed.
 abbrev pub OfWanted : Keys → Licence → Result Wanted Outcome → (Keys → Licence → Wanted → Type 0) → Type 0
 OfWanted keys licence (Ok wanted) holds = holds keys licence wanted
 OfWanted keys licence (Err refusal) holds = Unit {0}
 
--- the same of the keys and a licence that was read or refused
+-- The same, where the licence was read. What is wanted is read for the user of that licence.
 abbrev pub OfLicence : Shown → Keys → Result Licence Outcome → (Keys → Licence → Wanted → Type 0) → Type 0
 OfLicence what keys (Ok licence) holds = OfWanted keys licence (wanted_by licence.user what) holds
 OfLicence what keys (Err refusal) holds = Unit {0}
 
--- the same of keys that were read or refused, and the bytes of a sealed licence
+-- The same, where the keys were read and these bytes are a licence that is sealed with their seal key.
 abbrev pub OfKeys : Shown → Result Keys Outcome → List ℕ → (Keys → Licence → Wanted → Type 0) → Type 0
 OfKeys what (Ok keys) sealed holds = OfLicence what keys (sealed_licence_of keys.seal sealed) holds
 OfKeys what (Err refusal) sealed holds = Unit {0}
 
--- For a command that opens a store, the fact holds of what these bytes of keys and of a sealed licence say.
+-- For `view` and `explain`: where these bytes of keys, these bytes of a sealed licence and the query can be read, the
+-- fact is true of the keys, the licence and what is wanted. For other commands nothing is claimed.
 abbrev pub OfOpened : Command → List ℕ → List ℕ → (Keys → Licence → Wanted → Type 0) → Type 0
 OfOpened (preview what) secret sealed holds = Unit {0}
 OfOpened encode secret sealed holds = Unit {0}
@@ -54,34 +57,36 @@ OfOpened seal secret sealed holds = Unit {0}
 OfOpened (view what) secret sealed holds = OfKeys what (keys_of secret) sealed holds
 OfOpened (sample size) secret sealed holds = Unit {0}
 
--- For each document whose encoding under the document key has the licence's root, the fact holds of the text that is due of it,
--- unless there is a clash: some name has one string in what the reads hash and another in that encoding, with one digest.
+-- Under the conditions of `OfOpened`: for each document whose file under the document key has the licence's root, the
+-- fact is true of the text that is due of it, unless the reads collide with that file. They collide where the root or
+-- a position in the tree of digests has two different strings with one SHA-256 digest: one in the reads, and one in
+-- the file (`reads_clash`).
 abbrev pub OfEachDueText : Command → List ℕ → List ℕ → List StoreRead → (List ℕ → Type 0) → Type 0
 OfEachDueText c secret sealed reads holds = OfOpened c secret sealed (λ keys licence wanted.
     (d : Doc) → is_document d ≡ true → HasRoot d keys.document licence.root → reads_clash reads d keys.document ≡ false
     → holds (wanted_text d licence.rules wanted))
 
--- Where the store holds the encoding of a document under the document key, with the licence's root, the fact holds of the text
--- that is due of it.
+-- Under the conditions of `OfOpened`: the fact is true of the text that is due of a document, if the store contains
+-- the file of that document under the document key, of 16 bytes, and the root of the file is the licence's.
 abbrev pub OfHeldText : Command → List ℕ → List ℕ → Option (List ℕ) → (List ℕ → Type 0) → Type 0
 OfHeldText c secret sealed held holds = OfOpened c secret sealed (λ keys licence wanted.
     (d : Doc) → HoldsDocument held d keys.document → file_root d keys.document ≡ licence.root
     → holds (wanted_text d licence.rules wanted))
 
--- ---- how a run may end over a store that holds the file
+-- ---- how a run may end over a store that contains the file
 
--- An end to which a run may come over a store that holds the file: all was done, memory was wanting, or an object failed.
-abbrev pub IsOfNoBytes : End → Type 0
-IsOfNoBytes done = Unit {0}
-IsOfNoBytes no_memory = Unit {0}
-IsOfNoBytes usage = ⊥
-IsOfNoBytes (fault x) = Unit {0}
-IsOfNoBytes stopped = ⊥
-IsOfNoBytes (refused subject) = ⊥
+-- The end is that all is done, that memory ran out, or that an object failed. It is no refusal, not Usage and no stop.
+abbrev pub IsUnrefusedEnd : End → Type 0
+IsUnrefusedEnd done = Unit {0}
+IsUnrefusedEnd no_memory = Unit {0}
+IsUnrefusedEnd usage = ⊥
+IsUnrefusedEnd (fault x) = Unit {0}
+IsUnrefusedEnd stopped = ⊥
+IsUnrefusedEnd (refused subject) = ⊥
 
 -- ---- why the store was refused
 
--- whether an end is the store's failure or a refusal of its bytes
+-- whether the end is a fault of the store or a refusal of its bytes
 abbrev pub is_store_end : End → Bool
 is_store_end done = false
 is_store_end no_memory = false
@@ -90,22 +95,28 @@ is_store_end (fault x) = is_same x store
 is_store_end stopped = false
 is_store_end (refused subject) = is_of_store subject
 
--- An outcome that speaks of the store has its cause in the reads.
+-- If the outcome is a fault of the store or a refusal of its bytes, it is that of a read fault. Under this root and
+-- this key, the cause of the fault is in the reads (`IsFileCause`).
 abbrev pub HasStoreCause : Outcome → List ℕ → List ℕ → List StoreRead → Type 0
 HasStoreCause outcome root key reads = OnTrue (is_store_end (end_of outcome))
     ((read : ReadFault) × (outcome ≡ outcome_of_read_fault read) × IsFileCause root key read reads)
 
--- Where the reads show why the store is to be refused, the run ends with that refusal.
+-- If the reads show a read fault under this root and this key (`IsShown`), the outcome is that of this fault.
 abbrev pub IsRefusedAsShown : Outcome → List ℕ → List ℕ → List StoreRead → Type 0
 IsRefusedAsShown outcome root key reads = (fault : ReadFault) → IsShown root key fault reads → outcome ≡ outcome_of_read_fault fault
 
--- ---- why the store was refused, by what it served alone, whatever root and key the run had
+-- ---- why the store was refused, as far as the reads show it without the root and the key of the run
 
--- What the reads alone say of a refusal: what came as a header is none; they are the two of a start,
--- came whole, and the root string has another digest than the wanted one, or the header another check
--- than the key; a read came short; all came whole, are unfinished, and the store failed; all came
--- whole, and the newest opening, of this fragment, folds to another digest than the wanted one; or
--- all came whole and show, under some root and key, a whole file of no document.
+-- The cause of a read fault, as far as the reads show it without the root and the key of the run.
+-- BadHeader: the only read is that of the header. It came whole, and its bytes are no header.
+-- WrongRoot: the reads are those of the header and of the top digest, and came whole. The root string that they make
+-- has the digest `made`, which is not `want`.
+-- WrongKey: the reads are the same two, and came whole. The header has the key check `want`, which is not `made`.
+-- StoreShort: the last read came short and ended at the byte offset `to`. All reads before it came whole.
+-- StoreFault: all reads came whole, and they are unfinished (`IsUnfinished`).
+-- BadFragment: all reads came whole. The newest opening is that of the fragment `index`. It folds to `made`, and it
+-- should fold to `want`, which is another digest.
+-- BadIndex: all reads came whole, and under some root and some key they show a whole file of no document.
 abbrev pub IsServedCause : ReadFault → List StoreRead → Type 0
 IsServedCause BadHeader reads =
     (map ask_of reads ≡ header_ask ∷ []) × (header_served reads ≡ None) × (list_all is_whole reads ≡ true)
@@ -124,14 +135,19 @@ IsServedCause BadIndex reads =
     (list_all is_whole reads ≡ true)
     × ((root : List ℕ) × (key : List ℕ) × ShowsNoDocument root key reads)
 
--- An outcome that speaks of the store has what the reads alone say of its cause.
+-- If the outcome is a fault of the store or a refusal of its bytes, it is that of a read fault. The cause of the fault
+-- is in the reads, as far as they show it without the root and the key (`IsServedCause`).
 abbrev pub HasServedCause : Outcome → List StoreRead → Type 0
 HasServedCause outcome reads = OnTrue (is_store_end (end_of outcome))
     ((fault : ReadFault) × (outcome ≡ outcome_of_read_fault fault) × IsServedCause fault reads)
 
--- What the reads alone show, whatever the root and the key: what was served as a header is none; a read came short; or the
--- newest opening folds to another digest than the wanted one. A wrong root and a wrong key show by a root and a key. A store's
--- own failure shows by no read alone. Where the reads show a file of no document, want of memory may be answered too.
+-- What the reads show without the root and the key of the run.
+-- BadHeader: the first read has 64 bytes, and they are no header.
+-- StoreShort: the first read that came short ended at the byte offset `to`.
+-- BadFragment: the newest opening is that of the fragment `index`. It folds to `made`, and it should fold to `want`,
+-- which is another digest.
+-- The other four are shown by no reads alone. A wrong root or key shows only beside the right one, and a failed read
+-- leaves no trace. For a file of no document the answer may also be NoMemory.
 abbrev pub IsServedFault : ReadFault → List StoreRead → Type 0
 IsServedFault BadHeader reads =
     (is_some (option_and_then (whole 64) (slice_get reads 0)) ≡ true) × (header_served reads ≡ None)
@@ -144,20 +160,20 @@ IsServedFault (BadFragment index want made) reads =
     × (folded sha256 reads ≡ Some made) × (wanted sha256 reads ≡ Some want) × (want ≢ made)
 IsServedFault BadIndex reads = ⊥
 
--- Where the reads alone show why the store is to be refused, the run ends with that refusal.
+-- If the reads show a read fault without the root and the key (`IsServedFault`), the outcome is that of this fault.
 abbrev pub IsRefusedAsServed : Outcome → List StoreRead → Type 0
 IsRefusedAsServed outcome reads = (fault : ReadFault) → IsServedFault fault reads → outcome ≡ outcome_of_read_fault fault
 
--- ---- of which document a file is, by what the store served
+-- ---- of which document the file is, as the reads show it
 
--- The reads show a document under the licence's root and the document key, and what was written is the
--- text that is due of it.
+-- Under the licence's root and the document key the reads show a document, and the output grew by the whole text that
+-- is due of it.
 pub record WritesShown (keys : Keys) (licence : Licence) (wanted : Wanted) (reads : List StoreRead) (before after : Option (List ℕ)) : Type 0 where
   pub d : Doc
   pub document : is_document d ≡ true
   pub shows : ShowsDocument licence.root keys.document d reads
   pub written : Appends before after (wanted_text d licence.rules wanted)
 
--- Where the reads show a file of no document, the run ends with BadIndex, or memory was wanting.
+-- If the reads show, under this root and this key, a whole file of no document, the outcome is BadIndex or NoMemory.
 abbrev pub EndsWithoutDocument : Outcome → List ℕ → List ℕ → List StoreRead → Type 0
 EndsWithoutDocument outcome root key reads = ShowsNoDocument root key reads → IsOfNoDocument outcome

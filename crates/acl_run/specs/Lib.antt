@@ -3,12 +3,10 @@ pub mod Objects
 pub mod Outcomes
 pub mod Preview
 pub mod Readers
-pub mod Reading
-pub mod Opening
 pub mod Headline
 pub mod Lengths
 pub mod Seal
 pub mod Steps
-pub mod Texts
-pub mod Writing
+pub mod WrittenTexts
 pub mod Work
+pub mod inside

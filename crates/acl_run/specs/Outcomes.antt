@@ -1,4 +1,4 @@
--- The outcome that answers each fault of what a run reads. This project's own.
+-- The outcome of a run for each fault of what it reads. Defined by this project.
 use Rattle.std.specs.Prelude.{Bool, true, false}
 use Rattle.acl_outcome.specs.declared.outcome.Outcome.{Outcome}
 use Rattle.esis_lines.specs.declared.doc_fault.DocFault.{DocFault}
@@ -8,7 +8,7 @@ use Rattle.skip_encode.specs.declared.fault.EncodeFault.{EncodeFault}
 use Rattle.acl_outside.specs.declared.read_fault.ReadFault.{ReadFault}
 use Rattle.file_reading.specs.declared.fault.FileFault.{FileFault}
 
--- the outcome of what stands between a source and a document
+-- the outcome where a source gives no document
 abbrev pub outcome_of_fault : DocFault → Outcome
 outcome_of_fault (DocFault.BadLine line) = Outcome.BadLine line
 outcome_of_fault (DocFault.Unsupported line kind) = Outcome.Unsupported line kind
@@ -22,7 +22,7 @@ outcome_of_fault DocFault.SourceFault = Outcome.SourceFault
 outcome_of_fault (DocFault.TooManyAttributes line) = Outcome.TooManyAttributes line
 outcome_of_fault DocFault.NoMemory = Outcome.NoMemory
 
--- the outcome of what stands between bytes and a licence, or the body of one
+-- the outcome where bytes are no licence, or no body of one
 abbrev pub outcome_of_licence_fault : LicenceFault → Outcome
 outcome_of_licence_fault (LicenceFault.BadSeal given made) = Outcome.BadSeal given made
 outcome_of_licence_fault (LicenceFault.BadRule line at) = Outcome.BadRule line at
@@ -31,18 +31,18 @@ outcome_of_licence_fault LicenceFault.TooManyRules = Outcome.TooManyRules
 outcome_of_licence_fault LicenceFault.TooManyStates = Outcome.TooManyStates
 outcome_of_licence_fault LicenceFault.NoMemory = Outcome.NoMemory
 
--- the outcome of what stands between bytes and keys
+-- the outcome where bytes are no keys
 abbrev pub outcome_of_keys_error : KeysError → Outcome
 outcome_of_keys_error (KeysError.BadKeys line) = Outcome.BadKeys line
 outcome_of_keys_error KeysError.NoMemory = Outcome.NoMemory
 
--- the outcome of what stands between a document and its file
+-- the outcome where a document has no file
 abbrev pub outcome_of_encode_fault : EncodeFault → Outcome
 outcome_of_encode_fault EncodeFault.TooManyTags = Outcome.TooManyTags
 outcome_of_encode_fault EncodeFault.TooLarge = Outcome.TooLarge
 outcome_of_encode_fault EncodeFault.NoMemory = Outcome.NoMemory
 
--- the outcome of what stands between a store and bytes that are taken of it
+-- the outcome where the reading of a store failed or its bytes are refused
 abbrev pub outcome_of_read_fault : ReadFault → Outcome
 outcome_of_read_fault ReadFault.BadHeader = Outcome.BadHeader
 outcome_of_read_fault (ReadFault.WrongRoot want made) = Outcome.WrongRoot want made
@@ -52,12 +52,12 @@ outcome_of_read_fault ReadFault.StoreFault = Outcome.StoreFault
 outcome_of_read_fault (ReadFault.BadFragment index want made) = Outcome.BadFragment index want made
 outcome_of_read_fault ReadFault.BadIndex = Outcome.BadIndex
 
--- the outcome of what stands between a store and the document of its file
+-- the outcome where a store gives no document
 abbrev pub outcome_of_file_fault : FileFault → Outcome
 outcome_of_file_fault (FileFault.Refused fault) = outcome_of_read_fault fault
 outcome_of_file_fault FileFault.NoMemory = Outcome.NoMemory
 
--- whether an outcome is the refusal of a fragment, by what its opening folds to
+-- whether the outcome is BadFragment
 abbrev pub is_bad_fragment_outcome : Outcome → Bool
 is_bad_fragment_outcome Outcome.Done = false
 is_bad_fragment_outcome Outcome.NoMemory = false
@@ -93,7 +93,7 @@ is_bad_fragment_outcome Outcome.BadIndex = false
 is_bad_fragment_outcome Outcome.SinkFault = false
 is_bad_fragment_outcome (Outcome.Stopped watcher line) = false
 
--- An outcome that a run may have over a file of no document: BadIndex, or memory was wanting.
+-- The outcome is BadIndex or NoMemory: no other may come over a file of no document.
 abbrev pub IsOfNoDocument : Outcome → Type 0
 IsOfNoDocument Outcome.Done = ⊥
 IsOfNoDocument Outcome.NoMemory = Unit {0}

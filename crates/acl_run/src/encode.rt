@@ -1,23 +1,23 @@
-//! `encode`: the file of a document under the keys, and then a note that tells its root. The keys are read and refused
-//! first, then the document, and the whole file stands in memory before its first byte is written.
+//! `encode`: writes the file of a document under the document key, and then its root as a note. The keys are read and
+//! checked first, and then the document. The whole file is in memory before its first byte is written.
 
 ghost use Rattle.std.specs.Prelude.{◌≡◌, ◌+◌, IsTrue, IfSome, OnOk};
 ghost use Rattle.std.specs.Bool.{OnTrue};
 ghost use Rattle.std.specs.Io.KnownBytes.{IsAtEnd};
 ghost use Rattle.acl_outside.specs.Outside.{AreAllSettled};
-ghost use Rattle.acl_outside.specs.Writing.{Writes};
-ghost use Rattle.esis_lines.specs.Answers.{TakesUpTo};
+ghost use Rattle.acl_outside.specs.WrittenText.{Writes};
+ghost use Rattle.esis_lines.specs.DocumentAnswers.{TakesUpTo};
 ghost use Rattle.acl_outcome.specs.Ends.{Object, end_of, is_fault_of};
 ghost use Rattle.acl_words.specs.Command.{Command};
 ghost use Rattle.acl_run.specs.Encode.{root_line};
 ghost use Rattle.acl_run.specs.Lengths.{WhereTooLong, WhereWithin, is_too_long};
 ghost use Rattle.acl_run.specs.Objects.{LeavesSource, LeavesSink};
 ghost use Rattle.acl_run.specs.Steps.{Follows};
-ghost use Rattle.acl_run.specs.Texts.{WritesText, WritesNote, WhereWhole, WhereDone, due_out, due_note};
+ghost use Rattle.acl_run.specs.WrittenTexts.{WritesText, WritesNote, WhereWhole, WhereDone, due_out, due_note};
 ghost use Rattle.acl_run.specs.Work.{steps_of, may_end, keys_limit, input_limit};
-ghost use Rattle.acl_run.specs.Work.{is_behind_keys, is_behind_input};
+ghost use Rattle.acl_run.specs.Work.{is_after_keys, is_after_input};
 ghost use Rattle.acl_run.specs.Work.{precedes_input, precedes_output, precedes_note};
-ghost use Rattle.acl_run.specs.Writing.{EndsNoting};
+ghost use Rattle.acl_run.specs.inside.WritingSteps.{EndsNoting};
 
 use crate::readers::{make_file, read_document, read_keys};
 use crate::writing::write_text;
@@ -26,7 +26,7 @@ use acl_outside::{Failed, Sink, Source, finish, write_pieces};
 use skip_encode::Encoded;
 use std::alloc::Global;
 
-/// Writes the line of a root, and sees that the sink holds none of it back. It takes no memory.
+/// Writes the line of a root, and has the sink settle all of it. It allocates nothing.
 #[tactic(auto, unfolding(crate::specs::Encode::root_line))]
 fn write_root<N: Sink>(root: &[u8; 32], note: &mut N) -> Result<(), Failed>
     ensures written { Writes N.written N.missed N.settled N.faults result
@@ -55,7 +55,7 @@ fn write_file<W: Sink, N: Sink>(encoded: &Encoded, out: &mut W, note: &mut N) ->
     }
 }
 
-/// Reads the keys, then the document, makes its file, and writes it and then the line of its root.
+/// Reads the keys and then the document, makes its file, writes it, and then writes the line of its root.
 #[tactic(auto, using(crate::proofs::EncodeSteps::steps))]
 pub fn encode<K: Source, Q: Source, W: Sink, N: Sink>(
     alloc: Global,
@@ -80,9 +80,9 @@ pub fn encode<K: Source, Q: Source, W: Sink, N: Sink>(
     ensures keys_end { WhereWhole (end_of result) (IsAtEnd (K.left keys.new)) }
     ensures input_end { WhereWhole (end_of result) (IsAtEnd (Q.left input.new)) }
 
-    ensures keys_read { OnTrue (is_behind_keys Command.encode (end_of result))
+    ensures keys_read { OnTrue (is_after_keys Command.encode (end_of result))
         (TakesUpTo (keys_limit Command.encode + 1) (K.left keys.old) (K.left keys.new)) }
-    ensures input_read { OnTrue (is_behind_input Command.encode (end_of result))
+    ensures input_read { OnTrue (is_after_input Command.encode (end_of result))
         (TakesUpTo (input_limit Command.encode + 1) (Q.left input.old) (Q.left input.new)) }
     ensures long_keys { WhereTooLong (keys_limit Command.encode) (K.left keys.old)
         ((input.new ≡ input.old) × (out.new ≡ out.old) × (note.new ≡ note.old)) }

@@ -1,4 +1,5 @@
-//! The top call of `acl`: what a command line asks for, from sources of bytes to sinks of bytes.
+//! The top call of `acl`. It does what a command line asks for: it reads sources and a store of bytes, and writes to
+//! sinks.
 #![tactic(auto)]
 
 mod encode;

@@ -1,6 +1,6 @@
-//! `preview`: what a document shows under a licence body, with no file between: its view, the answer of a query, or
-//! where its signs come from. The rules are read and refused first, then the query, then the document, and then the
-//! first byte is written.
+//! `preview`: the view of a document under the rules of a licence body, the answer of a query, or the explanation. No
+//! file is encoded. The rules are read and checked first, then the query, and then the document. Only then the first
+//! byte is written.
 
 ghost use Rattle.std.specs.Prelude.{◌≡◌, ◌≤◌, ◌+◌, [], Some, None, IsTrue, IfSome, IfErr, OnOk, length};
 ghost use Rattle.std.specs.Bool.{OnTrue};
@@ -9,21 +9,21 @@ ghost use Rattle.acl_model.specs.Explain.{explain_text};
 ghost use Rattle.acl_model.specs.Text.{text_of_view};
 ghost use Rattle.acl_model.specs.View as model;
 ghost use Rattle.acl_outside.specs.Outside.{AreAllSettled};
-ghost use Rattle.esis_lines.specs.Answers.{TakesUpTo};
+ghost use Rattle.esis_lines.specs.DocumentAnswers.{TakesUpTo};
 ghost use Rattle.licence.specs.BodyText.{most_rules};
-ghost use Rattle.tree_meaning.specs.Shows.{WritesView};
+ghost use Rattle.tree_meaning.specs.inside.Shows.{WritesView};
 ghost use Rattle.acl_outcome.specs.Ends.{Object, end_of, is_fault_of};
 ghost use Rattle.acl_words.specs.Command.{Command};
 ghost use Rattle.acl_run.specs.Lengths.{WhereTooLong, WhereWithin, is_too_long};
 ghost use Rattle.acl_run.specs.Objects.{LeavesSource, LeavesSink};
 ghost use Rattle.acl_run.specs.Preview.{wanted_by, wanted_text};
-ghost use Rattle.acl_run.specs.Reading.{AnswersAlone};
-ghost use Rattle.acl_words.specs.Request.{meant_shown};
+ghost use Rattle.acl_run.specs.inside.SourceSteps.{AnswersAlone};
+ghost use Rattle.acl_words.specs.inside.Request.{meant_shown};
 ghost use Rattle.acl_run.specs.Steps.{Follows};
-ghost use Rattle.acl_run.specs.Texts.{WritesText, WhereWhole, due_out};
+ghost use Rattle.acl_run.specs.WrittenTexts.{WritesText, WhereWhole, due_out};
 ghost use Rattle.acl_run.specs.Work.{steps_of, ends_at_query, may_end, keys_limit, input_limit};
-ghost use Rattle.acl_run.specs.Work.{is_behind_keys, is_behind_input, precedes_input, precedes_output};
-ghost use Rattle.acl_run.specs.Writing.{EndsWriting};
+ghost use Rattle.acl_run.specs.Work.{is_after_keys, is_after_input, precedes_input, precedes_output};
+ghost use Rattle.acl_run.specs.inside.WritingSteps.{EndsWriting};
 
 use crate::readers::{read_document, read_query, read_rules};
 use acl_model::{Bytes, Doc, Path, Rule, Sign};
@@ -39,13 +39,13 @@ use tree_meaning::{WriteViewFault, view_tree, write_explanation_of, write_view};
 pub(crate) enum Wanted {
     /// Its view.
     View,
-    /// What this path, a query, selects in its view.
+    /// What the path of a query selects in its view.
     Answer(Path),
-    /// Where the signs of its elements come from.
+    /// The explanation: which rules decide the signs of its elements.
     Explanation,
 }
 
-/// What is wanted by a user.
+/// Reads what a user wants: a query is read as a path for that user.
 pub(crate) fn read_wanted(alloc: Global, shown: Shown<'_>, user: &[u8]) -> Result<Wanted, Outcome>
     ensures answer { AnswersAlone (wanted_by user.now (meant_shown shown.entry)) result }
     ensures ends { IfErr result
@@ -63,7 +63,7 @@ pub(crate) fn read_wanted(alloc: Global, shown: Shown<'_>, user: &[u8]) -> Resul
 
 // ---- writing
 
-/// Writes a view, and sees that the sink holds none of it back.
+/// Writes a view, and has the sink settle all of it.
 fn write_settled_view<W: Sink>(
     alloc: Global,
     doc: &Doc,
@@ -81,7 +81,7 @@ fn write_settled_view<W: Sink>(
     }
 }
 
-/// Writes an explanation, and sees that the sink holds none of it back.
+/// Writes an explanation, and has the sink settle all of it.
 fn write_settled_explanation<W: Sink>(
     alloc: Global,
     doc: &Doc,
@@ -100,7 +100,7 @@ fn write_settled_explanation<W: Sink>(
     }
 }
 
-/// Shows the view of a document.
+/// Writes the view of a document, and returns the outcome.
 #[tactic(auto, using(crate::proofs::WritingLaws::writings))]
 fn show_view<W: Sink>(alloc: Global, doc: &Doc, rules: &[Rule], out: &mut W) -> Outcome
     ensures { EndsWriting W.written W.missed W.settled W.faults result out.old out.new
@@ -113,7 +113,7 @@ fn show_view<W: Sink>(alloc: Global, doc: &Doc, rules: &[Rule], out: &mut W) -> 
     }
 }
 
-/// Shows nothing, and sees that the sink holds no earlier byte back.
+/// Writes nothing, and has the sink settle all earlier bytes.
 #[tactic(auto, using(crate::proofs::WritingLaws::writings))]
 fn show_nothing<W: Sink>(out: &mut W) -> Outcome
     ensures { EndsWriting W.written W.missed W.settled W.faults result out.old out.new [] }
@@ -124,7 +124,8 @@ fn show_nothing<W: Sink>(out: &mut W) -> Outcome
     }
 }
 
-/// Shows the answer of a query: what its path selects in the view of the document. Its predicates see the view alone.
+/// Writes the answer of a query: what its path selects in the view of the document. Its predicates are evaluated on the
+/// view, not on the document.
 #[tactic(auto, using(crate::proofs::WritingLaws::writings))]
 fn show_answer<W: Sink>(
     alloc: Global,
@@ -148,7 +149,7 @@ fn show_answer<W: Sink>(
     }
 }
 
-/// Shows where the signs of a document's elements come from.
+/// Writes the explanation of a document: which rules decide the signs of its elements.
 #[tactic(auto, using(crate::proofs::WritingLaws::writings))]
 fn show_explanation<W: Sink>(alloc: Global, doc: &Doc, rules: &[Rule], out: &mut W) -> Outcome
     requires { length rules.now ≤ most_rules }
@@ -162,7 +163,7 @@ fn show_explanation<W: Sink>(alloc: Global, doc: &Doc, rules: &[Rule], out: &mut
     }
 }
 
-/// Shows what is wanted of a document.
+/// Writes what is wanted of a document.
 pub(crate) fn show<W: Sink>(
     alloc: Global,
     doc: &Doc,
@@ -183,7 +184,7 @@ pub(crate) fn show<W: Sink>(
 
 // ---- the command
 
-/// Reads the rules, then the query, then the document, and writes what is to be shown.
+/// Reads the rules, then the query, then the document, and writes what is to be shown of it.
 #[tactic(auto, using(crate::proofs::PreviewSteps::steps))]
 pub fn preview<K: Source, Q: Source, W: Sink>(
     alloc: Global,
@@ -204,10 +205,10 @@ pub fn preview<K: Source, Q: Source, W: Sink>(
     ensures input_end { WhereWhole (end_of result) (IsAtEnd (Q.left input.new)) }
 
     ensures keys_read { let c = Command.preview (meant_shown shown.entry) in
-        OnTrue (is_behind_keys c (end_of result))
+        OnTrue (is_after_keys c (end_of result))
         (TakesUpTo (keys_limit c + 1) (K.left keys.old) (K.left keys.new)) }
     ensures input_read { let c = Command.preview (meant_shown shown.entry) in
-        OnTrue (is_behind_input c (end_of result))
+        OnTrue (is_after_input c (end_of result))
         (TakesUpTo (input_limit c + 1) (Q.left input.old) (Q.left input.new)) }
     ensures long_keys { let c = Command.preview (meant_shown shown.entry) in
         WhereTooLong (keys_limit c) (K.left keys.old)

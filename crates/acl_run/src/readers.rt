@@ -1,13 +1,13 @@
-//! What a run reads: each source to its end, and then what its bytes are asked to be.
+//! What a run reads. Each source is read to its end, and then its bytes are read as keys, a licence or a document.
 
 ghost use Rattle.std.specs.Prelude.{◌≡◌, ◌≤◌, ◌+◌, Ok, Err, true, IsTrue, IfSome, IfOk, OnOk, IfErr, MatchResult, length};
 ghost use Rattle.std.specs.Bool.{OnTrue};
 ghost use Rattle.std.specs.Io.KnownBytes.{IsAtEnd};
 ghost use Rattle.acl_model.specs.Document.{is_document};
-ghost use Rattle.esis_lines.specs.Answers.{TakesUpTo, most_document_bytes};
+ghost use Rattle.esis_lines.specs.DocumentAnswers.{TakesUpTo, most_document_bytes};
 ghost use Rattle.file_reading.specs.FileEnds.{OfHeldDocument};
-ghost use Rattle.fragment_open.specs.Checked.{AreOpeningsChecked};
-ghost use Rattle.fragment_open.specs.Told.{Told};
+ghost use Rattle.fragment_open.specs.Checked.{AllFoldUnlessRefused};
+ghost use Rattle.fragment_open.specs.CallReads.{Told};
 ghost use Rattle.licence.specs.BodyText.{most_rules};
 ghost use Rattle.skip_encode.specs.EncodedFile.{IsFileOf};
 ghost use Rattle.acl_outcome.specs.Ends.{Object, end_of};
@@ -16,11 +16,12 @@ ghost use Rattle.acl_run.specs.Outcomes.{outcome_of_fault, outcome_of_licence_fa
 ghost use Rattle.acl_run.specs.Outcomes.{outcome_of_encode_fault, outcome_of_file_fault, outcome_of_read_fault};
 ghost use Rattle.acl_run.specs.Readers.{licence_of, keys_of, document_of, with_file, sealed_of, sealed_licence_of, query_of};
 ghost use Rattle.acl_run.specs.Readers.{most_key_bytes, is_within_limits};
-ghost use Rattle.acl_run.specs.Opening.{IsHonestEnd, IsStoreRefused, IsStoreWithoutDocument, StoreEnds};
-ghost use Rattle.acl_run.specs.Opening.{ends_opening, is_fragment_refused};
-ghost use Rattle.acl_run.specs.Reading.{is_fault_in, is_about_bytes, ends_reading, ends_asking, Answers, AnswersAlone};
+ghost use Rattle.acl_run.specs.inside.Opening.{IsHonestEnd, IsStoreRefused, IsStoreWithoutDocument, StoreEnds};
+ghost use Rattle.acl_run.specs.inside.Opening.{ends_opening, is_fragment_refused};
+ghost use Rattle.acl_run.specs.inside.SourceSteps.{is_fault_in, is_about_bytes, ends_reading, ends_asking, Answers, AnswersAlone};
 ghost use Rattle.acl_run.specs.Steps.{Question, OrNoMemory};
 
+use acl_model::limits::{MOST_KEY_BYTES, MOST_PRED_STEPS, MOST_PREDS, MOST_STEPS};
 use acl_model::{Bytes, Doc, Path};
 use acl_outcome::Outcome;
 use acl_outside::{ReadFault, Source, Store};
@@ -31,11 +32,9 @@ use skip_encode::{EncodeFault, Encoded, encode_file};
 use std::alloc::Global;
 use xpath_rules::{PathError, count_states, read_path};
 
-/// The most bytes of keys, of a licence and of the body of one.
-const MOST_KEY_BYTES: u32 = 131_072;
-
 // ---- the outcome of each fault
 
+/// The outcome where a licence, or the body of one, is refused.
 fn licence_outcome(fault: LicenceFault) -> Outcome
     ensures { result ≡ outcome_of_licence_fault fault }
 {
@@ -49,6 +48,7 @@ fn licence_outcome(fault: LicenceFault) -> Outcome
     }
 }
 
+/// The outcome where keys are refused.
 fn keys_outcome(error: KeysError) -> Outcome
     ensures { result ≡ outcome_of_keys_error error }
 {
@@ -58,6 +58,7 @@ fn keys_outcome(error: KeysError) -> Outcome
     }
 }
 
+/// The outcome where no document was read.
 fn document_outcome(fault: DocFault) -> Outcome
     ensures { result ≡ outcome_of_fault fault }
 {
@@ -76,6 +77,7 @@ fn document_outcome(fault: DocFault) -> Outcome
     }
 }
 
+/// The outcome where a document has no file.
 fn file_outcome(fault: EncodeFault) -> Outcome
     ensures { result ≡ outcome_of_encode_fault fault }
 {
@@ -86,6 +88,7 @@ fn file_outcome(fault: EncodeFault) -> Outcome
     }
 }
 
+/// The outcome where reading from a store failed, or the bytes of the store are refused.
 fn read_outcome(fault: ReadFault) -> Outcome
     ensures { result ≡ outcome_of_read_fault fault }
 {
@@ -100,6 +103,7 @@ fn read_outcome(fault: ReadFault) -> Outcome
     }
 }
 
+/// The outcome where no document was read from a store.
 fn store_outcome(fault: FileFault) -> Outcome
     ensures { result ≡ outcome_of_file_fault fault }
 {
@@ -111,7 +115,7 @@ fn store_outcome(fault: FileFault) -> Outcome
 
 // ---- keys
 
-/// Reads the source of the rules to its end, and then the body of a licence that it holds.
+/// Reads the source of the rules to its end, and reads its bytes as the body of a licence.
 #[tactic(auto, unfolding(crate::specs::Readers::licence_of), using(crate::proofs::Taking::taken))]
 pub fn read_rules<K: Source>(alloc: Global, keys: &mut K) -> Result<Licence, Outcome>
     ensures answer { IfSome (K.left keys.old)
@@ -137,7 +141,7 @@ pub fn read_rules<K: Source>(alloc: Global, keys: &mut K) -> Result<Licence, Out
     }
 }
 
-/// Reads the source of the keys to its end, and then the keys that it holds.
+/// Reads the source of the keys to its end, and reads its bytes as keys.
 #[tactic(auto, unfolding(crate::specs::Readers::keys_of), using(crate::proofs::Taking::taken))]
 pub fn read_keys<K: Source>(alloc: Global, keys: &mut K) -> Result<Keys, Outcome>
     ensures answer { IfSome (K.left keys.old)
@@ -164,7 +168,7 @@ pub fn read_keys<K: Source>(alloc: Global, keys: &mut K) -> Result<Keys, Outcome
 
 // ---- the input
 
-/// Reads the input to its end, and then the document that it holds.
+/// Reads the input to its end, and reads its bytes as the lines of a document.
 #[tactic(auto, unfolding(crate::specs::Readers::document_of))]
 pub fn read_document<Q: Source>(alloc: Global, input: &mut Q) -> Result<Doc, Outcome>
     ensures answer { IfSome (Q.left input.old)
@@ -201,7 +205,7 @@ pub fn make_file(alloc: Global, doc: &Doc, key: [u8; 16]) -> Result<Encoded, Out
     }
 }
 
-/// Reads the input to its end, and makes the sealed text of the body of a licence that it holds.
+/// Reads the input to its end, reads its bytes as the body of a licence, and returns the sealed licence.
 #[tactic(auto, unfolding(crate::specs::Readers::sealed_of), using(crate::proofs::Taking::taken))]
 pub fn read_sealed<Q: Source>(
     alloc: Global,
@@ -230,7 +234,7 @@ pub fn read_sealed<Q: Source>(
     }
 }
 
-/// Reads the input to its end, and then the sealed licence that it holds.
+/// Reads the input to its end, and reads its bytes as a licence whose seal is right under this key.
 #[tactic(auto, unfolding(crate::specs::Readers::sealed_licence_of), using(crate::proofs::Taking::taken))]
 pub fn read_sealed_licence<Q: Source>(
     alloc: Global,
@@ -262,7 +266,7 @@ pub fn read_sealed_licence<Q: Source>(
 
 // ---- the store
 
-/// Reads the document of the store's file under a root and a key.
+/// Reads the file in the store, checks it against a root and a key, and returns its document.
 pub fn read_store<S: Store>(
     alloc: Global,
     store: &mut S,
@@ -273,7 +277,7 @@ pub fn read_store<S: Store>(
     ensures exact { Told (S.served store.old) (S.served store.new)
         (IsStoreRefused result root key) }
     ensures checked { Told (S.served store.old) (S.served store.new)
-        (AreOpeningsChecked (is_fragment_refused result)) }
+        (AllFoldUnlessRefused (is_fragment_refused result)) }
     ensures document { IfOk result (λ doc. is_document doc ≡ true) }
     ensures shown_index { Told (S.served store.old) (S.served store.new)
         (IsStoreWithoutDocument result root key) }
@@ -292,14 +296,15 @@ pub fn read_store<S: Store>(
 
 // ---- a query
 
+/// Whether a query is within its limits.
 fn are_few_states(path: &Path) -> bool
     ensures { result ≡ is_within_limits path.now }
 {
     let states = count_states(path);
-    states.steps <= 256 && states.pred_steps <= 256 && states.preds <= 64
+    states.steps <= MOST_STEPS && states.pred_steps <= MOST_PRED_STEPS && states.preds <= MOST_PREDS
 }
 
-/// The path of a query for a user.
+/// Reads a query as a path for a user.
 #[tactic(auto, unfolding(crate::specs::Readers::query_of))]
 pub fn read_query(alloc: Global, query: &[u8], user: &[u8]) -> Result<Path, Outcome>
     ensures answer { AnswersAlone (query_of user.now query.now) result }

@@ -1,4 +1,4 @@
-//! `sample`: the lines of the sample document, and then a note that tells its numbers. It reads nothing.
+//! `sample`: writes the lines of the sample document, and then its numbers as a note. It reads nothing.
 
 ghost use Rattle.std.specs.Prelude.{◌≡◌, ◌≤◌, [], IsTrue};
 ghost use Rattle.std.specs.Bool.{OnTrue};
@@ -7,7 +7,7 @@ ghost use Rattle.acl_outcome.specs.Ends.{Object, end_of, is_fault_of};
 ghost use Rattle.acl_words.specs.Command.{Command};
 ghost use Rattle.acl_run.specs.Objects.{LeavesSink};
 ghost use Rattle.acl_run.specs.Steps.{Follows};
-ghost use Rattle.acl_run.specs.Texts.{WritesText, WritesNote, WhereWhole, WhereDone, due_out, due_note};
+ghost use Rattle.acl_run.specs.WrittenTexts.{WritesText, WritesNote, WhereWhole, WhereDone, due_out, due_note};
 ghost use Rattle.acl_run.specs.Work.{steps_of, may_end, precedes_output, precedes_note};
 
 use crate::writing::{write_document, write_text};
@@ -16,7 +16,7 @@ use acl_outside::Sink;
 use sample_maker::{hospital, sample_line};
 use std::alloc::Global;
 
-/// Makes the sample document with so many folders, and writes its lines and then the note.
+/// Makes the sample document with this number of folders, writes its lines, and then writes the note.
 #[tactic(auto, using(crate::proofs::SampleSteps::steps))]
 pub fn sample<W: Sink, N: Sink>(alloc: Global, size: u32, out: &mut W, note: &mut N) -> Outcome
     requires least { 1 ≤ size }

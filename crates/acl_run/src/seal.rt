@@ -1,19 +1,19 @@
-//! `seal`: a licence, made of its body and the keys. The keys are read and refused before the body, and nothing is
-//! written before all of the body was accepted.
+//! `seal`: makes a licence of a body and the seal key. The keys are read and checked before the body, and nothing is
+//! written before the whole body was accepted.
 
 ghost use Rattle.std.specs.Prelude.{◌≡◌, ◌+◌, IsTrue, IfSome};
 ghost use Rattle.std.specs.Bool.{OnTrue};
 ghost use Rattle.std.specs.Io.KnownBytes.{IsAtEnd};
 ghost use Rattle.acl_outside.specs.Outside.{AreAllSettled};
-ghost use Rattle.esis_lines.specs.Answers.{TakesUpTo};
+ghost use Rattle.esis_lines.specs.DocumentAnswers.{TakesUpTo};
 ghost use Rattle.acl_outcome.specs.Ends.{Object, end_of, is_fault_of};
 ghost use Rattle.acl_words.specs.Command.{Command};
 ghost use Rattle.acl_run.specs.Lengths.{WhereTooLong, WhereWithin, is_too_long};
 ghost use Rattle.acl_run.specs.Objects.{LeavesSource, LeavesSink};
 ghost use Rattle.acl_run.specs.Steps.{Follows};
-ghost use Rattle.acl_run.specs.Texts.{WritesText, WhereWhole, due_out};
+ghost use Rattle.acl_run.specs.WrittenTexts.{WritesText, WhereWhole, due_out};
 ghost use Rattle.acl_run.specs.Work.{steps_of, may_end, keys_limit, input_limit};
-ghost use Rattle.acl_run.specs.Work.{is_behind_keys, is_behind_input, precedes_input, precedes_output};
+ghost use Rattle.acl_run.specs.Work.{is_after_keys, is_after_input, precedes_input, precedes_output};
 
 use crate::readers::{read_keys, read_sealed};
 use crate::writing::write_text;
@@ -21,7 +21,7 @@ use acl_outcome::Outcome;
 use acl_outside::{Sink, Source};
 use std::alloc::Global;
 
-/// Reads the keys, then the body, and writes the sealed text.
+/// Reads the keys, then the body, and writes the licence: the seal and then the body.
 #[tactic(auto, using(crate::proofs::SealSteps::steps))]
 pub fn seal<K: Source, Q: Source, W: Sink>(
     alloc: Global,
@@ -40,9 +40,9 @@ pub fn seal<K: Source, Q: Source, W: Sink>(
     ensures keys_end { WhereWhole (end_of result) (IsAtEnd (K.left keys.new)) }
     ensures input_end { WhereWhole (end_of result) (IsAtEnd (Q.left input.new)) }
 
-    ensures keys_read { OnTrue (is_behind_keys Command.seal (end_of result))
+    ensures keys_read { OnTrue (is_after_keys Command.seal (end_of result))
         (TakesUpTo (keys_limit Command.seal + 1) (K.left keys.old) (K.left keys.new)) }
-    ensures input_read { OnTrue (is_behind_input Command.seal (end_of result))
+    ensures input_read { OnTrue (is_after_input Command.seal (end_of result))
         (TakesUpTo (input_limit Command.seal + 1) (Q.left input.old) (Q.left input.new)) }
     ensures long_keys { WhereTooLong (keys_limit Command.seal) (K.left keys.old)
         ((input.new ≡ input.old) × (out.new ≡ out.old)) }

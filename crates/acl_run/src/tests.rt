@@ -1,10 +1,12 @@
-//! Whole runs over objects in memory. Words and lines are written with `;` between them. Each text was worked out by
-//! hand from the rules of access: the nearest element that a rule selects decides, and a denial wins over a grant at
-//! the same element.
+//! Whole runs over objects in memory. A table is one text with a line for each case, and fields have `|` between them.
+//! Arguments and lines have `;` between them. Each text was worked out by hand from the rules of access: the nearest
+//! element that a rule selects decides, and a denial wins over a grant at the same element.
 
 use super::*;
 use acl_outside::{MemSink, MemSource, MemStore, Recorder};
+use std::alloc::Global;
 use std::process::Abort;
+use std::test::Fail;
 
 mod faults;
 mod files;
@@ -20,16 +22,18 @@ const HOSPITAL: &str =
 /// The view of `HOSPITAL` that shows its patient alone.
 const PATIENT: &str = "(-;(-;(Admin;(SSN;-123;)SSN;(Fname;-Li;)Fname;)Admin;)-;)-";
 
+/// The view of `HOSPITAL` that shows its folder, and of its patient the number alone.
+const NUMBER: &str =
+    "(-;(Folder;(-;(SSN;-123;)SSN;)-;(Act;(RPhys;-Ana;)RPhys;(Details;-calm;)Details;)Act;)Folder;)-";
+
 /// The view of `HOSPITAL` that shows its act alone.
 const ACT: &str = "(-;(-;(Act;(RPhys;-Ana;)RPhys;(Details;-calm;)Details;)Act;)-;)-";
 
-const ZEROS: &str = "0000000000000000000000000000000000000000000000000000000000000000";
-
-/// A document key without a seal key.
-const HALF_KEYS: &str = "document 000102030405060708090a0b0c0d0e0f";
-
 const KEYS: &str =
     "document 000102030405060708090a0b0c0d0e0f;seal 000102030405060708090a0b0c0d0e0f101112131415161718191a1b1c1d1e1f";
+
+const OTHER_KEYS: &str =
+    "document 010102030405060708090a0b0c0d0e0f;seal 000102030405060708090a0b0c0d0e0f101112131415161718191a1b1c1d1e1f";
 
 /// The sample document with one folder.
 const SAMPLE: &str =
@@ -38,52 +42,89 @@ const SAMPLE: &str =
 /// No call of an object has this number.
 const NEVER: u64 = u64::MAX;
 
+// ---- fields
+
+/// What is before the first separator, and what is after it.
+fn cut(text: &str, separator: char) -> Result<(&str, &str), Fail> {
+    Ok(text.split_once(separator).ok_or("too few fields")?)
+}
+
+/// What a field in capitals means, else the field itself.
+fn in_full(field: &str) -> &str {
+    match field.as_bytes() {
+        b"HOSPITAL" => HOSPITAL,
+        b"PATIENT" => PATIENT,
+        b"NUMBER" => NUMBER,
+        b"ACT" => ACT,
+        b"KEYS" => KEYS,
+        b"OTHER KEYS" => OTHER_KEYS,
+        b"SAMPLE" => SAMPLE,
+        _ => field,
+    }
+}
+
+/// The text, with what is between its braces repeated: `{2*ab}` is `abab`, and `{2*a#}` with its numbers is `a1a2`.
+fn expanded(alloc: Global, text: &str) -> Result<String, Fail> {
+    let Some((before, rest)) = text.split_once('{') else {
+        return Ok(String::from_str(alloc, text)?);
+    };
+    let (inside, after) = cut(rest, '}')?;
+    let (count, piece) = cut(inside, '*')?;
+    let count: u32 = count.parse()?;
+    let mut all = String::from_str(alloc, before)?;
+    let (first, numbered) = piece.split_once('#').unwrap_or((piece, ""));
+    for number in 1..=count {
+        all.push_str(first)?;
+        if first.len() < piece.len() {
+            for part in numbered.split('#') {
+                let part = format!(in alloc; "{number}{part}")?;
+                all.push_str(part.as_str())?;
+            }
+        }
+    }
+    all.push_str(after)?;
+    Ok(all)
+}
+
+/// The body of a licence for Ana with this root and these rules, each with a `;` after it.
+fn body(alloc: Global, root: &str, rules: &str) -> Result<String, Fail> {
+    Ok(format!(in alloc; "licence 1;root {root};user Ana;{rules}end")?)
+}
+
 /// The lines, each with its line feed.
-fn lines<R: Abort + AllocGlobal>(rt: &R, text: &str) -> Vec<u8> {
-    let mut bytes = Vec::new(rt.alloc());
+fn lines(alloc: Global, text: &str) -> Result<Vec<u8>, Fail> {
+    let mut bytes = Vec::new(alloc);
     for byte in text.as_bytes() {
-        let byte = if *byte == b';' { b'\n' } else { *byte };
-        bytes.push(byte).expect(rt, "memory");
+        bytes.push(if *byte == b';' { b'\n' } else { *byte })?;
     }
     if !text.is_empty() {
-        bytes.push(b'\n').expect(rt, "memory");
+        bytes.push(b'\n')?;
     }
-    bytes
+    Ok(bytes)
 }
 
-pub(crate) fn words<R: Abort + AllocGlobal>(rt: &R, text: &str) -> Vec<String> {
-    let mut words = Vec::new(rt.alloc());
-    for word in text.split(';') {
-        let word = String::from_str(rt.alloc(), word).expect(rt, "memory");
-        words.push(word).expect(rt, "memory");
+/// The lines that a field means: after `rules ` those of the body of a licence with these rules, whose root is zeros.
+fn lines_of(alloc: Global, field: &str) -> Result<Vec<u8>, Fail> {
+    let text = expanded(alloc, in_full(field))?;
+    match text.as_str().strip_prefix("rules ") {
+        Some(rules) => {
+            let zeros = "0".repeat(alloc, 64)?;
+            lines(alloc, body(alloc, zeros.as_str(), rules)?.as_str())
+        }
+        None => lines(alloc, text.as_str()),
     }
-    words
 }
 
-/// The body of a licence with these rules, each with a `;` behind it.
-fn body<R: Abort + AllocGlobal>(rt: &R, root: &str, rules: &str) -> String {
-    let body = format!(in rt.alloc(); "licence 1;root {root};user Ana;{rules}end");
-    body.expect(rt, "memory")
-}
-
-/// So many pieces, numbered from 1. The number of each stands behind its first and its second part.
-fn numbered<R: Abort + AllocGlobal>(rt: &R, count: u32, parts: [&str; 3]) -> String {
-    let [first, second, third] = parts;
-    let mut all = String::new(rt.alloc());
-    for number in 1..=count {
-        let piece = format!(in rt.alloc(); "{first}{number}{second}{number}{third}");
-        let piece = piece.expect(rt, "memory");
-        all.push_str(piece.as_str()).expect(rt, "memory");
+fn arguments(alloc: Global, field: &str) -> Result<Vec<String>, Fail> {
+    let text = expanded(alloc, field)?;
+    let mut all = Vec::new(alloc);
+    for argument in text.as_str().split(';') {
+        all.push(String::from_str(alloc, argument)?)?;
     }
-    all
+    Ok(all)
 }
 
-/// A document with so many names.
-fn names<R: Abort + AllocGlobal>(rt: &R, count: u32) -> String {
-    let inner = numbered(rt, count.saturating_sub(1), ["(n", ";)n", ";"]);
-    let document = format!(in rt.alloc(); "(r;{inner})r");
-    document.expect(rt, "memory")
-}
+// ---- runs
 
 /// The objects of a run: the bytes of the keys, the input and the store, the room of the output, and for each object,
 /// the note too, the number of its call that fails.
@@ -105,58 +146,58 @@ struct Ended {
     note: MemSink,
 }
 
-fn source<R: Abort + AllocGlobal>(rt: &R, bytes: &[u8], fails_at: u64) -> MemSource {
-    let bytes = Vec::from_slice(rt.alloc(), bytes).expect(rt, "memory");
-    let fails = Vec::from_slice(rt.alloc(), &[fails_at]).expect(rt, "memory");
+fn source(alloc: Global, bytes: &[u8], fails_at: u64) -> Result<MemSource, Fail> {
+    let bytes = Vec::from_slice(alloc, bytes)?;
+    let fails = Vec::from_slice(alloc, &[fails_at])?;
     // Pieces of seven bytes cut lines anywhere.
-    MemSource::new(bytes, 7, fails)
+    Ok(MemSource::new(bytes, 7, fails))
 }
 
-fn sink<R: Abort + AllocGlobal>(rt: &R, room: usize, fails_at: u64) -> MemSink {
-    let fails = Vec::from_slice(rt.alloc(), &[fails_at]).expect(rt, "memory");
-    MemSink::new(rt.alloc(), room, fails).expect(rt, "memory")
+fn sink(alloc: Global, room: usize, fails_at: u64) -> Result<MemSink, Fail> {
+    let fails = Vec::from_slice(alloc, &[fails_at])?;
+    Ok(MemSink::new(alloc, room, fails)?)
 }
 
-fn store<R: Abort + AllocGlobal>(rt: &R, bytes: &[u8], fails_at: u64) -> Recorder<MemStore> {
-    let bytes = Vec::from_slice(rt.alloc(), bytes).expect(rt, "memory");
-    let fails = Vec::from_slice(rt.alloc(), &[fails_at]).expect(rt, "memory");
+fn store(alloc: Global, bytes: &[u8], fails_at: u64) -> Result<Recorder<MemStore>, Fail> {
+    let bytes = Vec::from_slice(alloc, bytes)?;
+    let fails = Vec::from_slice(alloc, &[fails_at])?;
     let store = MemStore::new(bytes, fails);
-    Recorder::new(rt.alloc(), store, 64, 16_384).expect(rt, "memory")
+    Ok(Recorder::new(alloc, store, 64, 16_384)?)
 }
 
-fn run_with<R: Abort + AllocGlobal>(rt: &R, words: &[String], objects: Objects<'_>) -> Ended {
+fn run_with(alloc: Global, words: &[String], objects: Objects<'_>) -> Result<Ended, Fail> {
     let [keys, input, stored, out, note] = objects.fails;
-    let mut store = store(rt, objects.store, stored);
-    let mut out = sink(rt, objects.room, out);
-    let mut note = sink(rt, 100, note);
+    let mut store = store(alloc, objects.store, stored)?;
+    let mut out = sink(alloc, objects.room, out)?;
+    let mut note = sink(alloc, 100, note)?;
     let outcome = run(
-        rt.alloc(),
+        alloc,
         words,
-        &mut source(rt, objects.keys, keys),
-        &mut source(rt, objects.input, input),
+        &mut source(alloc, objects.keys, keys)?,
+        &mut source(alloc, objects.input, input)?,
         &mut store,
         &mut out,
         &mut note,
     );
-    Ended {
+    Ok(Ended {
         outcome,
         store,
         out,
         note,
-    }
+    })
 }
 
-/// A run of these words over these keys and this input.
-fn run_failing<R: Abort + AllocGlobal>(
-    rt: &R,
+/// A run over these fields of keys and input.
+fn run_failing(
+    alloc: Global,
     text: &str,
     keys: &str,
     input: &str,
     room: usize,
     fails: [u64; 5],
-) -> Ended {
-    let keys = lines(rt, keys);
-    let input = lines(rt, input);
+) -> Result<Ended, Fail> {
+    let keys = lines_of(alloc, keys)?;
+    let input = lines_of(alloc, input)?;
     let objects = Objects {
         keys: keys.as_slice(),
         input: input.as_slice(),
@@ -164,28 +205,59 @@ fn run_failing<R: Abort + AllocGlobal>(
         room,
         fails,
     };
-    run_with(rt, words(rt, text).as_slice(), objects)
+    run_with(alloc, arguments(alloc, text)?.as_slice(), objects)
 }
 
 /// The same where nothing fails.
-fn run_over<R: Abort + AllocGlobal>(rt: &R, text: &str, keys: &str, input: &str) -> Ended {
-    run_failing(rt, text, keys, input, 8192, [NEVER; 5])
+fn run_over(alloc: Global, text: &str, keys: &str, input: &str) -> Result<Ended, Fail> {
+    run_failing(alloc, text, keys, input, 65_536, [NEVER; 5])
 }
 
-/// A run over these keys and this input ends so, and writes these lines of output and of note.
-fn assert_run<R: Abort + AllocGlobal>(
+// ---- what is checked
+
+/// What an outcome says. Done says nothing.
+fn said(alloc: Global, outcome: &Outcome) -> Result<MemSink, Fail> {
+    let mut errors = MemSink::new(alloc, 200, Vec::new(alloc))?;
+    match outcome_text(outcome, &mut errors) {
+        Ok(()) => Ok(errors),
+        Err(_) => Err("no room for the line".into()),
+    }
+}
+
+/// The bytes that came are the lines of this field.
+fn assert_lines<R: Abort + AllocGlobal>(
     rt: &R,
-    text: &str,
-    keys: &str,
-    input: &str,
-    outcome: Outcome,
-    out: &str,
-    note: &str,
-) {
-    let ended = run_over(rt, text, keys, input);
-    assert_eq!(rt; ended.outcome, outcome, "{text} over {keys} and {input}");
-    let out = lines(rt, out);
-    assert_eq!(rt; ended.out.written(), out.as_slice(), "{text} over {keys}");
-    let note = lines(rt, note);
-    assert_eq!(rt; ended.note.written(), note.as_slice(), "{text} over {keys}");
+    row: &str,
+    came: &[u8],
+    field: &str,
+) -> Result<(), Fail> {
+    let wanted = lines_of(rt.alloc(), field)?;
+    assert_eq!(rt; came, wanted.as_slice(), "{row}");
+    Ok(())
+}
+
+/// The line of a run's outcome, its output and its note are the lines of these fields.
+fn assert_ended<R: Abort + AllocGlobal>(
+    rt: &R,
+    row: &str,
+    ended: &Ended,
+    fields: [&str; 3],
+) -> Result<(), Fail> {
+    let [line, out, note] = fields;
+    let said = said(rt.alloc(), &ended.outcome)?;
+    assert_lines(rt, row, said.written(), line)?;
+    assert_lines(rt, row, ended.out.written(), out)?;
+    assert_lines(rt, row, ended.note.written(), note)
+}
+
+/// A run of the first three fields, its arguments, keys and input, has the other three: the line of its outcome, its
+/// output and its note.
+fn assert_row<R: Abort + AllocGlobal>(rt: &R, row: &str) -> Result<(), Fail> {
+    let (text, rest) = cut(row, '|')?;
+    let (keys, rest) = cut(rest, '|')?;
+    let (input, rest) = cut(rest, '|')?;
+    let (line, rest) = cut(rest, '|')?;
+    let (out, note) = cut(rest, '|')?;
+    let ended = run_over(rt.alloc(), text, keys, input)?;
+    assert_ended(rt, row, &ended, [line, out, note])
 }

@@ -1,27 +1,30 @@
-//! The top call: the words say what is asked for, and each object of the outside is handed in. One outcome comes back,
-//! as the order of work of the command has it, and each fault that it names is one that the object counted.
+//! The top call. The arguments say what is asked for, and the caller passes the files and streams as objects. The call
+//! returns one outcome, by the order of work of the command (`specs/Work.antt`).
+//!
+//! An object *tells* its bytes where contracts can see them. Those in memory do, and files and streams don't. A text is
+//! *due* where the run is to write it.
 
 ghost use Rattle.std.specs.Prelude.{◌≡◌, ◌↔◌, ◌+◌, None, IsTrue, IfSome, IfNone, map, string_bytes};
 ghost use Rattle.std.specs.Bool.{OnTrue, OnFalse};
 ghost use Rattle.std.specs.Io.KnownBytes.{Appends, IsAtEnd};
 ghost use Rattle.acl_outside.specs.Outside.{AppendsPart, AreAllSettled};
-ghost use Rattle.esis_lines.specs.Answers.{TakesUpTo};
-ghost use Rattle.fragment_open.specs.Checked.{AreOpeningsChecked};
+ghost use Rattle.esis_lines.specs.DocumentAnswers.{TakesUpTo};
+ghost use Rattle.fragment_open.specs.Checked.{AllFoldUnlessRefused};
 ghost use Rattle.fragment_open.specs.Served.{IsRegular};
-ghost use Rattle.fragment_open.specs.Told.{Told};
+ghost use Rattle.fragment_open.specs.CallReads.{Told};
 ghost use Rattle.acl_outcome.specs.Ends.{Object, end_of, is_fault_of};
-ghost use Rattle.acl_run.specs.Headline.{HasServedCause, HasStoreCause, IsOfNoBytes, IsRefusedAsServed, IsRefusedAsShown};
+ghost use Rattle.acl_run.specs.Headline.{HasServedCause, HasStoreCause, IsUnrefusedEnd, IsRefusedAsServed, IsRefusedAsShown};
 ghost use Rattle.acl_run.specs.Headline.{EndsWithoutDocument, WritesShown};
 ghost use Rattle.acl_run.specs.Headline.{OfEachDueText, OfHeldText, OfOpened};
 ghost use Rattle.acl_run.specs.Lengths.{WhereTooLong, WhereWithin, is_too_long};
 ghost use Rattle.acl_run.specs.Objects.{LeavesSource, LeavesSink, LeavesStore};
 ghost use Rattle.acl_run.specs.Outcomes.{is_bad_fragment_outcome};
-ghost use Rattle.acl_run.specs.Texts.{WritesText, WritesNote, WhereWhole, WhereDone};
-ghost use Rattle.acl_run.specs.Texts.{due_out, due_note};
-ghost use Rattle.acl_words.specs.Words.{words_of};
+ghost use Rattle.acl_run.specs.WrittenTexts.{WritesText, WritesNote, WhereWhole, WhereDone};
+ghost use Rattle.acl_run.specs.WrittenTexts.{due_out, due_note};
+ghost use Rattle.acl_words.specs.CommandLines.{words_of};
 ghost use Rattle.acl_run.specs.Steps.{Follows};
 ghost use Rattle.acl_run.specs.Work.{steps_of, may_end, uses, keys_for, input_for};
-ghost use Rattle.acl_run.specs.Work.{is_behind_keys, is_behind_input, precedes_input};
+ghost use Rattle.acl_run.specs.Work.{is_after_keys, is_after_input, precedes_input};
 ghost use Rattle.acl_run.specs.Work.{keys_limit, input_limit, precedes_output, precedes_note, precedes_store};
 
 use crate::encode::encode;
@@ -34,20 +37,23 @@ use acl_outside::{Sink, Source, Store};
 use acl_words::{Request, read_words};
 use std::alloc::Global;
 
-/// Does what the words ask for. They are those of the command line, without the program's own name.
+/// Does what the arguments of a command line ask for. `words` are these arguments, without the program's name.
 ///
-/// `preview RULES [--query P] [--explain]` reads a licence body from `keys` and then a document from `input`, and
-/// writes to `out` the authorised view, or what the query P selects in it, or where the signs come from.
-/// `encode KEYS` reads keys from `keys` and then a document from `input`, and writes the document's file to `out`,
-/// and then its root to `note`. `seal KEYS` reads keys from `keys` and then a licence body from `input`, and writes
-/// the sealed licence to `out`. `view KEYS STORE [--query P]` and `explain KEYS STORE` read keys from `keys`, a
-/// sealed licence from `input` and the whole file of a document from `store`, and write to `out` the authorised view,
-/// or what the query P selects in it, or where the signs come from. `sample N` writes the lines of the sample
-/// document with N folders to `out`, and then its numbers to `note`.
+/// - `preview RULES [--query P] [--explain]` reads a licence body from `keys`, and then a document from `input`. It
+///   writes to `out` the authorised view, what the query P selects in it, or an explanation of the signs.
+/// - `encode KEYS` reads keys from `keys`, and then a document from `input`. It writes the document's file to `out`,
+///   and then the root of that file to `note`.
+/// - `seal KEYS` reads keys from `keys`, and then a licence body from `input`. It writes the sealed licence to
+///   `out`.
+/// - `view KEYS STORE [--query P]` reads keys from `keys`, a sealed licence from `input`, and the whole file of a
+///   document from `store`. It writes to `out` the authorised view, or what the query P selects in it.
+/// - `explain KEYS STORE` reads the same, and writes an explanation of the signs.
+/// - `sample N` writes the lines of the sample document with N folders to `out`, and then its numbers to `note`.
 ///
 /// Keys, bodies and sealed licences have at most 131,072 bytes, and a document at most 33,554,432. A document that is
-/// to be encoded has at most 256 names, and its dictionary and its tree have together at most 33,554,432 bytes. What
-/// is read first is refused first, and all of it is read before the first byte is written.
+/// to be encoded has at most 256 names, and its dictionary and its tree have together at most 33,554,432 bytes.
+///
+/// What is read first is refused first, and everything is read and checked before the first byte is written.
 #[tactic(auto, using(crate::proofs::TopSteps::tops))]
 pub fn run<K: Source, Q: Source, S: Store, W: Sink, N: Sink>(
     alloc: Global,
@@ -58,19 +64,24 @@ pub fn run<K: Source, Q: Source, S: Store, W: Sink, N: Sink>(
     out: &mut W,
     note: &mut N,
 ) -> Outcome
-    // Other words are no command line, and nothing is touched then.
+    // The outcome is Usage exactly where the arguments are no command line. No object changes then.
     ensures usage { (result ≡ Outcome.Usage) ↔ (words_of (map string_bytes words.now) ≡ None) }
     ensures untouched { IfNone (words_of (map string_bytes words.now)) ((keys.new ≡ keys.old)
         × (input.new ≡ input.old) × (store.new ≡ store.old) × (out.new ≡ out.old)
         × (note.new ≡ note.old)) }
 
-    // Each refusal and each fault comes exactly where the order of work has it.
+    // The run does the steps of its command in order, and ends at the first that it does not pass. The
+    // outcome is one that the command may have.
     ensures order { IfSome (words_of (map string_bytes words.now)) (λ c.
         Follows (steps_of c (K.left keys.old) (Q.left input.old)) result) }
     ensures ends { IfSome (words_of (map string_bytes words.now))
         (λ c. IsTrue (may_end c result)) }
 
-    // What is written: the texts that are due, and nothing before the first byte of them.
+    // What is written, as far as the objects tell their bytes. On Done the whole text that is due was
+    // written to `out`, then the whole note to `note`, and neither sink holds anything back. If `out` failed,
+    // a prefix of the text was written. If `note` failed, the whole text and a prefix of the note were
+    // written. A run that ends before the writing of a sink leaves that sink unchanged. For `view` and
+    // `explain` the clauses after these say which text it is.
     ensures text { IfSome (words_of (map string_bytes words.now)) (λ c.
         IfSome (keys_for c (K.left keys.old)) (λ rules.
         IfSome (input_for c (Q.left input.old)) (λ lines. WritesText (end_of result)
@@ -89,11 +100,14 @@ pub fn run<K: Source, Q: Source, S: Store, W: Sink, N: Sink>(
     ensures unnoted { IfSome (words_of (map string_bytes words.now))
         (λ c. OnTrue (precedes_note c (end_of result)) (note.new ≡ note.old)) }
 
-    // What a store that nobody trusts is worth: a front part of the text that is due of each document whose encoding
-    // has the licence's root, and the whole of it where all was written, or a clash of digests with that document. A
-    // store that holds the encoding is not refused. The reads are the first of those that the file's format fixes.
-    // Where they show why the store is to be refused it is refused for that, and each refusal of it has its cause in
-    // them.
+    // `view` and `explain` don't trust the store. Take any document whose file under the document key has
+    // the licence's root. `out` grew by a prefix of the text that is due of it, and by all of it on Done.
+    // The exception is a collision: at one position in the tree of digests, or as the root string, the
+    // reads hash a string and that file has a different one with the same SHA-256 digest. A store that
+    // contains the file is not refused: the run ends with the whole text, out of memory, or with a fault of
+    // an object, without an exception. The reads are the first of those that the format of the file fixes.
+    // Each refusal of the store has its cause in the reads. Where they show a reason to refuse the store,
+    // the outcome is that refusal.
     ensures prefix { IfSome (words_of (map string_bytes words.now)) (λ c.
         IfSome (K.left keys.old) (λ secret. IfSome (Q.left input.old) (λ sealed.
         Told (S.served store.old) (S.served store.new) (λ reads.
@@ -106,7 +120,7 @@ pub fn run<K: Source, Q: Source, S: Store, W: Sink, N: Sink>(
         WhereWhole (end_of result) (Appends (W.written out.old) (W.written out.new) text)))))) }
     ensures honest { IfSome (words_of (map string_bytes words.now)) (λ c.
         IfSome (K.left keys.old) (λ secret. IfSome (Q.left input.old) (λ sealed.
-        OfHeldText c secret sealed (S.holds store.old) (λ text. IsOfNoBytes (end_of result)
+        OfHeldText c secret sealed (S.holds store.old) (λ text. IsUnrefusedEnd (end_of result)
         × WhereWhole (end_of result) (Appends (W.written out.old) (W.written out.new) text))))) }
     ensures regular { Told (S.served store.old) (S.served store.new) IsRegular }
     ensures store_cause { IfSome (words_of (map string_bytes words.now)) (λ c.
@@ -119,8 +133,8 @@ pub fn run<K: Source, Q: Source, S: Store, W: Sink, N: Sink>(
         Told (S.served store.old) (S.served store.new) (λ reads.
         OfOpened c secret sealed (λ keys licence wanted.
         IsRefusedAsShown result licence.root keys.document reads))))) }
-    // Where all was written, the reads show a document and it is the text that is due of that;
-    // reads that show a file of no document end in BadIndex or in want of memory.
+    // Whatever the root: on Done the reads show a whole checked file of a document, and `out` grew by the
+    // text that is due of it. Where they show a file of no document, the outcome is BadIndex or NoMemory.
     ensures read { IfSome (words_of (map string_bytes words.now)) (λ c.
         IfSome (K.left keys.old) (λ secret. IfSome (Q.left input.old) (λ sealed.
         Told (S.served store.old) (S.served store.new) (λ reads.
@@ -132,23 +146,27 @@ pub fn run<K: Source, Q: Source, S: Store, W: Sink, N: Sink>(
         Told (S.served store.old) (S.served store.new) (λ reads.
         OfOpened c secret sealed (λ keys licence wanted.
         EndsWithoutDocument result licence.root keys.document reads))))) }
-    // As far as what the store served alone says it, whatever the keys and the input tell.
+    // The part of `store_cause` and `refused` that the reads show without root and key. It is also claimed
+    // where the keys and the input don't tell their bytes.
     ensures served_cause { Told (S.served store.old) (S.served store.new)
         (HasServedCause result) }
     ensures refused_alone { Told (S.served store.old) (S.served store.new)
         (IsRefusedAsServed result) }
-    // Whatever is answered, each opening but the newest was good, and the newest folds as wanted,
-    // unless its fragment is refused.
+    // Whatever the outcome, each opened fragment but the newest led to the digest that was wanted. So did
+    // the newest, if it was read completely and the outcome is not BadFragment.
     ensures checked { Told (S.served store.old) (S.served store.new)
-        (AreOpeningsChecked (is_bad_fragment_outcome result)) }
+        (AllFoldUnlessRefused (is_bad_fragment_outcome result)) }
 
-    // What is read: each source to its end, or one byte past its limit, and the input only behind good keys. Keys that
-    // are too long leave all else untouched; an input that is too long was read past its limit behind all of the keys.
+    // An outcome about the bytes of a source, or a later one, comes only after that source was read to its
+    // end or one byte past its limit. On Done both are at their ends. Keys that are too long leave all
+    // other objects unchanged. If the keys are within their limit and a length is refused, it is that of
+    // the input, and all of the keys were read before. An end before the reading of the input or the
+    // opening of the store leaves it unchanged.
     ensures keys_read { IfSome (words_of (map string_bytes words.now)) (λ c.
-        OnTrue (is_behind_keys c (end_of result))
+        OnTrue (is_after_keys c (end_of result))
         (TakesUpTo (keys_limit c + 1) (K.left keys.old) (K.left keys.new))) }
     ensures input_read { IfSome (words_of (map string_bytes words.now)) (λ c.
-        OnTrue (is_behind_input c (end_of result))
+        OnTrue (is_after_input c (end_of result))
         (TakesUpTo (input_limit c + 1) (Q.left input.old) (Q.left input.new))) }
     ensures keys_end { IfSome (words_of (map string_bytes words.now)) (λ c.
         OnTrue (uses c Object.keys) (WhereWhole (end_of result) (IsAtEnd (K.left keys.new)))) }
@@ -167,7 +185,8 @@ pub fn run<K: Source, Q: Source, S: Store, W: Sink, N: Sink>(
     ensures unopened { IfSome (words_of (map string_bytes words.now))
         (λ c. OnTrue (precedes_store c (end_of result)) (store.new ≡ store.old)) }
 
-    // Each object counts a fault exactly where it is named, and an object that is not used stays as it was.
+    // Each object counted a fault exactly where the outcome is its fault (a full count stays full). An
+    // object that the command does not use is unchanged.
     ensures keys { IfSome (words_of (map string_bytes words.now)) (λ c.
         LeavesSource K.left K.faults (is_fault_of Object.keys (end_of result)) (keys_limit c)
         keys.old keys.new) }

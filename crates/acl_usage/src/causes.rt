@@ -1,15 +1,15 @@
-//! What was wrong, in words, behind the line of an outcome: the file or stream in which it was, and what is the matter.
+//! Explains an outcome other than Usage: one line with the file or stream that is at fault, and the cause.
 
 use acl_outcome::Outcome;
 use acl_words::{Files, Input, named_files};
 use std::alloc::{AllocError, Global};
 
-/// What a run is given.
+/// What can be at fault in a run.
 #[derive(Clone, Copy)]
 enum Given {
     /// The file that is read first: the keys, or else the rules.
     Keys,
-    /// What has the rules: the file that is named for them, else standard input.
+    /// The source of the rules: the file RULES, or else standard input.
     Rules,
     Input,
     Query,
@@ -17,54 +17,53 @@ enum Given {
     Output,
 }
 
-const NO_LINE: &str = "the line is none of a document; examples/xml.sh makes lines of an XML file";
+const NO_LINE: &str = "not a line of a document; examples/xml.sh converts XML files";
 
-const UNBALANCED: &str = "something can't stand there, or the end of an element is missing";
+const UNBALANCED: &str = "the line is not allowed here, or the end of an element is missing";
 
-const SECOND_ROOT: &str = "something stands behind the end of the root";
+const SECOND_ROOT: &str = "something follows the end of the root";
 
 const TOO_MANY_ATTRIBUTES: &str = "an element has more than 65,535 attributes";
 
-const TOO_MANY_NAMES: &str = "the document has more than 256 different names";
+const TOO_MANY_NAMES: &str = "the document has more than 256 different element names";
 
-const TOO_LARGE: &str = "the document's names and tree take more than 33,554,432 bytes";
+const TOO_LARGE: &str = "the document's names and tree need more than 33,554,432 bytes";
 
-const WRONG_ROOT: &str = "it is another file than the licence is for, or was changed; \
-    a body names its file by the root of encode";
+const WRONG_ROOT: &str = "the licence is for another file, or this one was changed; \
+    the root in a licence body is the one that acl encode prints";
 
-const NOT_THERE: &str = "it is missing, is a folder, or can't be read";
+const NOT_READABLE: &str = "not found, or not a readable file";
 
 const BAD_SEAL: &str = "the licence was changed since it was sealed, or sealed with other keys";
 
-/// What should stand in this line of a licence body, counted from 1.
+/// What this line of a licence body must be. Lines are counted from 1.
 fn body_line(line: u32) -> &'static str {
     match line {
-        1 => "the line 'licence 1' belongs here, without a seal, spaces or a carriage return",
-        2 => "the line that acl encode said belongs here: root and 64 digits",
-        3 => "user and a name belong here",
-        _ =>
-            "a rule is + or -, an id that no other rule has, and a path; then end, and no other lines",
+        1 => "expected the line 'licence 1', without a seal, spaces or a carriage return",
+        2 => "expected the line that acl encode prints: 'root' and 64 hexadecimal digits",
+        3 => "expected 'user' and a name",
+        _ => "expected a rule ('+' or '-', a unique id and a path), or 'end' as the last line",
     }
 }
 
-/// What should stand in this line of a sealed licence.
+/// What this line of a sealed licence must be.
 fn licence_line(line: u32) -> &'static str {
     match line {
-        0 | 1 => "the line of the seal belongs here, which acl seal sets before a body",
+        0 | 1 => "expected the seal line, which acl seal writes before the body",
         _ => body_line(line - 1),
     }
 }
 
-/// What should stand in this line of the keys, counted from 1.
+/// What this line of the keys must be. Lines are counted from 1.
 fn keys_line(line: u32) -> &'static str {
     match line {
-        1 => "document and 32 digits belong here",
-        2 => "seal and 64 digits belong here",
-        _ => "nothing may stand behind the two lines of the keys",
+        1 => "expected 'document' and 32 hexadecimal digits",
+        2 => "expected 'seal' and 64 hexadecimal digits",
+        _ => "something follows the two lines of the keys",
     }
 }
 
-/// Where this line of a licence is, and what should stand there.
+/// Where this line of a licence or a body is, and what it must be.
 fn in_licence(line: u32, input: Input) -> (Given, &'static str) {
     match input {
         Input::Licence => (Given::Input, licence_line(line)),
@@ -72,43 +71,40 @@ fn in_licence(line: u32, input: Input) -> (Given, &'static str) {
     }
 }
 
-/// Where something is the matter, and what. `None` where the outcome's name says it all, or the cause is a path.
+/// What is at fault, and the cause. `None` where the outcome's name says it all, or where the fault is in a path.
 fn cause(outcome: Outcome, input: Input) -> Option<(Given, &'static str)> {
     Some(match outcome {
         Outcome::Done | Outcome::NoMemory | Outcome::Usage | Outcome::NoteFault => return None,
         Outcome::InputTooLong { .. } | Outcome::TooManyStates => return None,
         Outcome::BadRule { .. } | Outcome::BadQuery { .. } | Outcome::Stopped { .. } => return None,
         Outcome::BadLine { .. } => (Given::Input, NO_LINE),
-        Outcome::Unsupported { .. } => (Given::Input, "lines that begin so are not read"),
+        Outcome::Unsupported { .. } => (Given::Input, "lines of this kind are not supported"),
         Outcome::Unbalanced { .. } => (Given::Input, UNBALANCED),
-        Outcome::NoRoot => (Given::Input, "there is no element"),
+        Outcome::NoRoot => (Given::Input, "the document has no element"),
         Outcome::SecondRoot { .. } => (Given::Input, SECOND_ROOT),
-        Outcome::TooDeep { .. } => (Given::Input, "more than 255 elements are open"),
-        Outcome::NameTooLong { .. } => (Given::Input, "a name has more than 255 bytes"),
+        Outcome::TooDeep { .. } => (Given::Input, "elements are nested more than 255 deep"),
+        Outcome::NameTooLong { .. } => (Given::Input, "a name is longer than 255 bytes"),
         Outcome::TooManyAttributes { .. } => (Given::Input, TOO_MANY_ATTRIBUTES),
         Outcome::TooManyTags => (Given::Input, TOO_MANY_NAMES),
         Outcome::TooLarge => (Given::Input, TOO_LARGE),
-        Outcome::SourceFault => (Given::Input, "it can't be read"),
-        Outcome::BadHeader => (Given::Store, "it is no file that acl encode makes"),
+        Outcome::SourceFault => (Given::Input, "cannot be read"),
+        Outcome::BadHeader => (Given::Store, "not a file made by acl encode"),
         Outcome::WrongRoot { .. } => (Given::Store, WRONG_ROOT),
-        Outcome::WrongKey { .. } => (Given::Store, "it was encoded with another document key"),
-        Outcome::StoreShort { .. } => (Given::Store, "it ends too early"),
-        Outcome::StoreFault => (Given::Store, NOT_THERE),
-        Outcome::BadFragment { .. } => (Given::Store, "it was changed"),
-        Outcome::BadIndex => (
-            Given::Store,
-            "it was made of something else than a document",
-        ),
-        Outcome::KeysFault => (Given::Keys, NOT_THERE),
+        Outcome::WrongKey { .. } => (Given::Store, "encrypted with another document key"),
+        Outcome::StoreShort { .. } => (Given::Store, "unexpected end of file"),
+        Outcome::StoreFault => (Given::Store, NOT_READABLE),
+        Outcome::BadFragment { .. } => (Given::Store, "the file was changed"),
+        Outcome::BadIndex => (Given::Store, "the file was not made from a document"),
+        Outcome::KeysFault => (Given::Keys, NOT_READABLE),
         Outcome::BadKeys { line } => (Given::Keys, keys_line(line)),
         Outcome::BadSeal { .. } => (Given::Input, BAD_SEAL),
         Outcome::BadLicence { line } => in_licence(line, input),
-        Outcome::TooManyRules => (Given::Rules, "there are more than 64 rules"),
-        Outcome::SinkFault => (Given::Output, "it can't be written"),
+        Outcome::TooManyRules => (Given::Rules, "more than 64 rules"),
+        Outcome::SinkFault => (Given::Output, "cannot be written"),
     })
 }
 
-/// How the user knows what a run was given.
+/// The name that the user knows it by: of the file, or of the stream.
 fn name_of(given: Given, files: Files<'_>) -> &str {
     let (named, unnamed) = match given {
         Given::Keys => (files.keys.or(files.rules), "the keys"),
@@ -121,19 +117,19 @@ fn name_of(given: Given, files: Files<'_>) -> &str {
     named.unwrap_or(unnamed)
 }
 
-/// The line of a path that goes wrong behind so many bytes.
+/// The line for an invalid path, of which the first `at` bytes begin some path.
 fn path_line(alloc: Global, name: &str, at: u32) -> Result<String, AllocError> {
     if at == 0 {
-        format!(in alloc; "acl: {name}: a path begins with / or //\n")
+        format!(in alloc; "acl: {name}: a path must begin with / or //\n")
     } else {
         format!(in alloc;
-            "acl: {name}: the path goes wrong behind its first {at} bytes, or ends there too early\n"
+            "acl: {name}: the path is invalid after its first {at} bytes, or ends too early\n"
         )
     }
 }
 
-/// The line that says an outcome in words, or nothing where its name says it all.
-fn in_files(alloc: Global, files: Files<'_>, outcome: Outcome) -> Result<String, AllocError> {
+/// The line that explains an outcome of a run with these files. Empty where the outcome's name says it all.
+fn line_for(alloc: Global, files: Files<'_>, outcome: Outcome) -> Result<String, AllocError> {
     match (outcome, cause(outcome, files.input)) {
         (Outcome::BadRule { at, .. }, _) => path_line(alloc, name_of(Given::Rules, files), at),
         (Outcome::BadQuery { at }, _) => path_line(alloc, name_of(Given::Query, files), at),
@@ -144,14 +140,10 @@ fn in_files(alloc: Global, files: Files<'_>, outcome: Outcome) -> Result<String,
     }
 }
 
-/// The line that says this outcome of a command line in words. Of words that are none, nothing is said.
-pub fn cause_in_words(
-    alloc: Global,
-    words: &[String],
-    outcome: Outcome,
-) -> Result<String, AllocError> {
+/// The line that explains this outcome. Empty where the arguments are no valid command line.
+pub fn cause_line(alloc: Global, words: &[String], outcome: Outcome) -> Result<String, AllocError> {
     match named_files(words) {
-        Some(files) => in_files(alloc, files, outcome),
+        Some(files) => line_for(alloc, files, outcome),
         None => Ok(String::new(alloc)),
     }
 }

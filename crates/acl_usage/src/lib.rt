@@ -1,54 +1,56 @@
-//! What is said to a user behind the line of an outcome. Of words that are no command line it is which of them is wrong,
-//! and the page of the command that they begin with; where they begin with none, the page of all commands. Of another
-//! outcome it is in which file or stream something was the matter, and what.
+//! The text that the program writes to standard error after the line of an outcome. For a faulty command line it names
+//! the wrong argument and shows the help page of the command, or of all commands where the first argument names none.
+//! For another outcome it names the file or stream that is at fault, and the cause.
 //!
-//! `clap` renders the pages, and reads no words: `acl_words` has which command lines there are.
+//! `clap` renders the pages and parses nothing: `acl_words` defines the command lines. In names, `words` are the
+//! arguments without the program's name.
 #![tactic(auto)]
 
 mod causes;
 
 use acl_outcome::Outcome;
 use acl_words::refused_word;
-use causes::cause_in_words;
+use causes::cause_line;
 use clap::{Arg, ArgAction, Command};
 use std::alloc::{AllocError, Global};
 
 #[cfg(test)]
 mod tests;
 
-/// A command of the program. Its page has this line, its words, and then the rest of what is to be said.
+/// A command of the program, with the texts of its help page.
 fn command(
     alloc: Global,
     name: &'static str,
     whole_name: &str,
-    line: &'static str,
-    rest: &'static str,
+    about: &'static str,
+    after_help: &'static str,
 ) -> Result<Command<'static>, AllocError> {
     Command::new(alloc, name)
-        .about(line)
-        .after_help(rest)
+        .about(about)
+        .after_help(after_help)
         .disable_help_flag(true)
         .bin_name(whole_name)
 }
 
-fn word(alloc: Global, name: &'static str, help: &'static str) -> Arg<'static> {
+/// A required argument.
+fn operand(alloc: Global, name: &'static str, help: &'static str) -> Arg<'static> {
     Arg::new(alloc, name).required(true).help(help)
 }
 
-// ---- the options: one function for each, whichever commands take it
+// ---- the options: one function for each, for all commands that take it
 
 fn query(alloc: Global) -> Arg<'static> {
     Arg::new(alloc, "P")
         .long("query")
         .action(ArgAction::Set)
-        .help("Writes of the view only what this path selects")
+        .help("Write only what this path selects in the view")
 }
 
 fn explanation(alloc: Global) -> Arg<'static> {
     Arg::new(alloc, "explain")
         .long("explain")
         .action(ArgAction::SetTrue)
-        .help("Writes in its place which rule decides at each element that a rule selects")
+        .help("Write which rule decides at each element that a rule selects, instead of the view")
 }
 
 // ---- the commands
@@ -58,12 +60,12 @@ fn preview(alloc: Global) -> Result<Command<'static>, AllocError> {
         alloc,
         "preview",
         "acl preview",
-        "Shows a document as the rules of a licence body let it be seen",
-        "Reads the document's lines from standard input, and writes the view's lines to standard output.\n\
-        --query and --explain don't stand together.\n\n\
+        "Show a document's view under the rules of a licence body",
+        "Reads the lines of the document from standard input, and writes the lines of the view to standard output.\n\
+        --query and --explain cannot be used together.\n\n\
         Example: acl preview examples/doctor.rules <examples/hospital.esis",
     )?
-    .arg(word(alloc, "RULES", "File of the licence body"))?
+    .arg(operand(alloc, "RULES", "File with the licence body"))?
     .arg(query(alloc))?
     .arg(explanation(alloc))
 }
@@ -73,12 +75,12 @@ fn encode(alloc: Global) -> Result<Command<'static>, AllocError> {
         alloc,
         "encode",
         "acl encode",
-        "Encrypts a document under the document key of the keys",
-        "Reads the document's lines from standard input, and writes the encrypted file to standard output and its root\n\
-        to standard error. A licence names the file by the root.\n\n\
+        "Encrypt a document with the document key",
+        "Reads the lines of the document from standard input. Writes the encrypted file to standard output, and its\n\
+        root to standard error. A licence names the file by its root.\n\n\
         Example: acl encode my.keys <my.esis >my.file",
     )?
-    .arg(word(alloc, "KEYS", "File of the keys"))
+    .arg(operand(alloc, "KEYS", "File with the keys"))
 }
 
 fn seal(alloc: Global) -> Result<Command<'static>, AllocError> {
@@ -86,11 +88,12 @@ fn seal(alloc: Global) -> Result<Command<'static>, AllocError> {
         alloc,
         "seal",
         "acl seal",
-        "Seals a licence body: its seal under the seal key of the keys stands before it",
-        "Reads the licence body from standard input, and writes the sealed licence to standard output.\n\n\
+        "Seal a licence body with the seal key",
+        "Reads the licence body from standard input, and writes the sealed licence to standard output: the seal\n\
+        line, and then the body.\n\n\
         Example: acl seal my.keys <my.rules >my.licence",
     )?
-    .arg(word(alloc, "KEYS", "File of the keys"))
+    .arg(operand(alloc, "KEYS", "File with the keys"))
 }
 
 fn view(alloc: Global) -> Result<Command<'static>, AllocError> {
@@ -98,13 +101,13 @@ fn view(alloc: Global) -> Result<Command<'static>, AllocError> {
         alloc,
         "view",
         "acl view",
-        "Shows an encrypted document as a sealed licence lets it be seen",
-        "Reads the sealed licence from standard input, and writes the view's lines to standard output. The file of the\n\
-        store is checked against the licence's root as it is read.\n\n\
+        "Show an encrypted document's view under a sealed licence",
+        "Reads the sealed licence from standard input, and writes the lines of the view to standard output. The\n\
+        encrypted file is checked against the root in the licence before anything is written.\n\n\
         Example: acl view my.keys my.file <my.licence",
     )?
-    .arg(word(alloc, "KEYS", "File of the keys"))?
-    .arg(word(alloc, "STORE", "The encrypted file"))?
+    .arg(operand(alloc, "KEYS", "File with the keys"))?
+    .arg(operand(alloc, "STORE", "The encrypted file"))?
     .arg(query(alloc))
 }
 
@@ -113,13 +116,13 @@ fn explain(alloc: Global) -> Result<Command<'static>, AllocError> {
         alloc,
         "explain",
         "acl explain",
-        "Tells the publisher which rule of a sealed licence decides at each element that a rule selects",
-        "Reads the sealed licence from standard input, and writes the explanation's lines to standard output. They tell\n\
-        of elements that the view hides, so they are not for the reader.\n\n\
+        "Show the publisher which rule of a sealed licence decides at each element that a rule selects",
+        "Reads the sealed licence from standard input, and writes the lines of the explanation to standard output.\n\
+        They describe elements that the view hides, so they are not for the reader.\n\n\
         Example: acl explain my.keys my.file <my.licence",
     )?
-    .arg(word(alloc, "KEYS", "File of the keys"))?
-    .arg(word(alloc, "STORE", "The encrypted file"))
+    .arg(operand(alloc, "KEYS", "File with the keys"))?
+    .arg(operand(alloc, "STORE", "The encrypted file"))
 }
 
 fn sample(alloc: Global) -> Result<Command<'static>, AllocError> {
@@ -127,12 +130,12 @@ fn sample(alloc: Global) -> Result<Command<'static>, AllocError> {
         alloc,
         "sample",
         "acl sample",
-        "Makes a document to try the others on: a hospital with N folders",
-        "Reads nothing. Writes the document's lines to standard output, and to standard error one line: its\n\
-        elements, its lines, and the lines of its view under + S //Folder[Act/RPhys = \"Ana\"]/Admin.\n\n\
+        "Make a sample document: a hospital with N folders",
+        "Reads nothing. Writes the lines of the document to standard output, and one line to standard error: the\n\
+        number of elements, of lines, and of lines of the view under + S //Folder[Act/RPhys = \"Ana\"]/Admin.\n\n\
         Example: acl sample 100 >sample.esis",
     )?
-    .arg(word(alloc, "N", "From 1 to 20000"))
+    .arg(operand(alloc, "N", "Number of folders, from 1 to 20000"))
 }
 
 /// The command of this name, if there is one.
@@ -149,17 +152,17 @@ fn command_named(alloc: Global, name: &str) -> Result<Option<Command<'static>>, 
     Ok(Some(command))
 }
 
-/// Adds the line of a command's words.
-fn add_words(text: &mut String, mut command: Command<'static>) -> Result<(), AllocError> {
+/// Appends the usage line of a command.
+fn add_usage_line(text: &mut String, mut command: Command<'static>) -> Result<(), AllocError> {
     let line = command.render_usage()?;
     text.push_str("\n")?;
     text.push_str(line.as_str())
 }
 
-/// The page of all commands: what each does, and its words.
+/// The page of all commands: what each does, and its usage line.
 fn page_of_all(alloc: Global) -> Result<String, AllocError> {
     let mut all = Command::new(alloc, "acl")
-        .about("Shows of an XML document to each reader what the rules of a licence let through")
+        .about("Give each reader the part of an XML document that a licence allows")
         .disable_help_flag(true)
         .disable_help_subcommand(true)
         .subcommand_required(true)
@@ -170,21 +173,21 @@ fn page_of_all(alloc: Global) -> Result<String, AllocError> {
         .subcommand(explain(alloc)?)?
         .subcommand(sample(alloc)?)?;
     let mut text = all.render_help()?;
-    add_words(&mut text, preview(alloc)?)?;
-    add_words(&mut text, encode(alloc)?)?;
-    add_words(&mut text, seal(alloc)?)?;
-    add_words(&mut text, view(alloc)?)?;
-    add_words(&mut text, explain(alloc)?)?;
-    add_words(&mut text, sample(alloc)?)?;
+    add_usage_line(&mut text, preview(alloc)?)?;
+    add_usage_line(&mut text, encode(alloc)?)?;
+    add_usage_line(&mut text, seal(alloc)?)?;
+    add_usage_line(&mut text, view(alloc)?)?;
+    add_usage_line(&mut text, explain(alloc)?)?;
+    add_usage_line(&mut text, sample(alloc)?)?;
     text.push_str(
-        "\n\nacl COMMAND, with nothing behind it, says more of its words. docs/FORMATS.md describes documents, licence\n\
-        bodies, keys and paths. examples/xml.sh makes the lines of a document from an XML file. A run that fails\n\
-        says so on standard error, in a line 'acl: NUMBER NAME' and more, and ends with that number.\n",
+        "\n\nRun 'acl COMMAND' without arguments for its help. docs/FORMATS.md describes documents, licence bodies,\n\
+        keys and paths. examples/xml.sh converts an XML file to the lines of a document. A run that fails writes\n\
+        a line 'acl: NUMBER NAME' and the cause to standard error, and exits with that number.\n",
     )?;
     Ok(text)
 }
 
-/// The page of the command that the words begin with, or else of all.
+/// The page of the command that the first argument names, or else of all commands.
 fn page(alloc: Global, words: &[String]) -> Result<String, AllocError> {
     let named = match words {
         [name, ..] => command_named(alloc, name.as_str())?,
@@ -196,19 +199,19 @@ fn page(alloc: Global, words: &[String]) -> Result<String, AllocError> {
     }
 }
 
-/// Adds where the words go wrong. Of no words at all nothing is said.
+/// Appends which argument is wrong, or that one is missing. Appends nothing where there are no arguments.
 fn add_fault(text: &mut String, words: &[String]) -> Result<(), AllocError> {
     let Some(at) = refused_word(words) else {
         return Ok(());
     };
     match (words.get(at), words.last()) {
         (Some(word), _) => {
-            text.push_str("acl: unexpected word '")?;
+            text.push_str("acl: unexpected argument '")?;
             text.push_str(word.as_str())?;
             text.push_str("'\n\n")
         }
         (None, Some(last)) => {
-            text.push_str("acl: a word is missing behind '")?;
+            text.push_str("acl: an argument is missing after '")?;
             text.push_str(last.as_str())?;
             text.push_str("'\n\n")
         }
@@ -216,7 +219,7 @@ fn add_fault(text: &mut String, words: &[String]) -> Result<(), AllocError> {
     }
 }
 
-/// What is said of words that are no command line.
+/// The text for a faulty command line.
 fn usage(alloc: Global, words: &[String]) -> Result<String, AllocError> {
     let mut text = String::new(alloc);
     add_fault(&mut text, words)?;
@@ -225,10 +228,15 @@ fn usage(alloc: Global, words: &[String]) -> Result<String, AllocError> {
     Ok(text)
 }
 
-/// What is said behind the line of this outcome to the user who gave these words: whole lines, or nothing.
-pub fn in_words(alloc: Global, words: &[String], outcome: &Outcome) -> Result<String, AllocError> {
+/// The text for this outcome of a run with these arguments: whole lines, or nothing where the outcome's name says it
+/// all.
+pub fn message_for(
+    alloc: Global,
+    words: &[String],
+    outcome: &Outcome,
+) -> Result<String, AllocError> {
     match outcome {
         Outcome::Usage => usage(alloc, words),
-        other => cause_in_words(alloc, words, *other),
+        other => cause_line(alloc, words, *other),
     }
 }

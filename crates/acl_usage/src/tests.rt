@@ -1,207 +1,129 @@
-//! That what is said can be made, names what is wrong, and has each command with its words.
+//! The help page of each command, the wrong argument that it names, and the lines that explain outcomes.
 
-use super::{Outcome, in_words};
-use std::process::Abort;
+use super::{Outcome, message_for};
+use std::alloc::Global;
 use std::test::Fail;
 
-/// What is said of these words, which have `;` between them.
-fn said<R: Abort + AllocGlobal>(rt: &R, text: &str, outcome: Outcome) -> Result<String, Fail> {
-    let mut words = Vec::new(rt.alloc());
-    for word in text.split(';') {
-        words.push(String::from_str(rt.alloc(), word)?)?;
+/// The text for this outcome of a run with these arguments, which have `;` between them.
+fn text_for(alloc: Global, arguments: &str, outcome: Outcome) -> Result<String, Fail> {
+    let mut words = Vec::new(alloc);
+    for word in arguments.split(';') {
+        words.push(String::from_str(alloc, word)?)?;
     }
-    Ok(in_words(rt.alloc(), words.as_slice(), &outcome)?)
+    Ok(message_for(alloc, words.as_slice(), &outcome)?)
 }
 
-/// What is said of words that are no command line has all of these pieces.
-fn assert_says<R: Abort + AllocGlobal>(rt: &R, text: &str, pieces: &[&str]) -> Result<(), Fail> {
-    let said = said(rt, text, Outcome::Usage)?;
-    for piece in pieces {
-        assert!(rt; said.as_str().contains(*piece), "{text}: {piece}");
+/// Whether the text for a faulty command line has all pieces of a row: the arguments, then the pieces, with `|` between
+/// them.
+fn has_pieces(alloc: Global, row: &str) -> Result<bool, Fail> {
+    let (arguments, pieces) = row.split_once('|').ok_or("one field")?;
+    let text = text_for(alloc, arguments, Outcome::Usage)?;
+    for piece in pieces.split('|') {
+        if !text.as_str().contains(piece) {
+            return Ok(false);
+        }
     }
+    Ok(true)
+}
+
+const PAGES: &str =
+    "--help|Usage: acl <COMMAND>|Usage: acl preview [OPTIONS] <RULES>|Usage: acl encode <KEYS>
+--help|Usage: acl seal <KEYS>|Usage: acl view [OPTIONS] <KEYS> <STORE>|Usage: acl explain <KEYS> <STORE>
+--help|Usage: acl sample <N>|docs/FORMATS.md|acl: unexpected argument '--help'
+fly;high|Usage: acl <COMMAND>|Usage: acl sample <N>|docs/FORMATS.md|acl: unexpected argument 'fly'
+preview|Usage: acl preview [OPTIONS] <RULES>|--explain|acl: an argument is missing after 'preview'
+encode|Usage: acl encode <KEYS>|acl encode my.keys <my.esis >my.file|acl: an argument is missing after 'encode'
+seal;k;b|Usage: acl seal <KEYS>|acl seal my.keys <my.rules >my.licence|acl: unexpected argument 'b'
+view;k;s;l|Usage: acl view [OPTIONS] <KEYS> <STORE>|--query <P>|acl: unexpected argument 'l'
+explain;k|Usage: acl explain <KEYS> <STORE>|The encrypted file|acl: an argument is missing after 'k'
+sample;0|Usage: acl sample <N>|from 1 to 20000|acl: unexpected argument '0'";
+
+#[test]
+fn a_faulty_command_line_gets_its_wrong_argument_and_a_page(rt: HostRuntime) -> Result<(), Fail> {
+    for row in PAGES.lines() {
+        assert!(rt; has_pieces(rt.alloc(), row)?, "{row}");
+    }
+    let page = message_for(rt.alloc(), &[], &Outcome::Usage)?;
+    assert!(rt; page.as_str().starts_with("Give each reader"));
     Ok(())
 }
 
-const ALL: [&str; 8] = [
-    "Usage: acl <COMMAND>",
-    "Usage: acl preview [OPTIONS] <RULES>",
-    "Usage: acl encode <KEYS>",
-    "Usage: acl seal <KEYS>",
-    "Usage: acl view [OPTIONS] <KEYS> <STORE>",
-    "Usage: acl explain <KEYS> <STORE>",
-    "Usage: acl sample <N>",
-    "docs/FORMATS.md",
-];
-
-#[test]
-fn the_page_names_each_command_and_its_words(rt: HostRuntime) -> Result<(), Fail> {
-    assert_says(&rt, "--help", &ALL)?;
-    assert_says(&rt, "fly;high", &ALL)?;
-    assert_says(&rt, "fly;high", &["acl: unexpected word 'fly'"])?;
-    let page = in_words(rt.alloc(), &[], &Outcome::Usage)?;
-    assert!(rt; page.as_str().starts_with("Shows of an XML document"));
-    Ok(())
-}
-
-#[test]
-fn a_command_has_a_page_of_its_own(rt: HostRuntime) -> Result<(), Fail> {
-    for (text, fault, words, more) in [
-        (
-            "preview",
-            "a word is missing behind 'preview'",
-            "preview [OPTIONS] <RULES>",
-            "--explain",
-        ),
-        (
-            "encode",
-            "a word is missing behind 'encode'",
-            "encode <KEYS>",
-            "acl encode my.keys <my.esis >my.file",
-        ),
-        (
-            "seal;k;b",
-            "unexpected word 'b'",
-            "seal <KEYS>",
-            "acl seal my.keys <my.rules >my.licence",
-        ),
-        (
-            "view;k;s;l",
-            "unexpected word 'l'",
-            "view [OPTIONS] <KEYS> <STORE>",
-            "--query <P>",
-        ),
-        (
-            "explain;k",
-            "a word is missing behind 'k'",
-            "explain <KEYS> <STORE>",
-            "The encrypted file",
-        ),
-        (
-            "sample;0",
-            "unexpected word '0'",
-            "sample <N>",
-            "From 1 to 20000",
-        ),
-    ] {
-        assert_says(&rt, text, &["acl: ", fault, "Usage: acl ", words, more])?;
-    }
-    Ok(())
-}
-
-/// Each outcome by the name that docs/FORMATS.md has for it.
-#[test]
-fn each_refusal_is_said_in_words(rt: HostRuntime) -> Result<(), Fail> {
+/// The outcome with this name in docs/FORMATS.md, at this line or byte.
+fn outcome_named(name: &str, at: u32) -> Option<Outcome> {
     let digest = [0; 32];
-    let view = "view;k;s;--query=/a";
-    for (words, outcome, wanted) in [
-        (
-            "preview;r",
-            Outcome::KeysFault,
-            "acl: r: it is missing, is a folder, or can't be read\n",
-        ),
-        (
-            view,
-            Outcome::KeysFault,
-            "acl: k: it is missing, is a folder, or can't be read\n",
-        ),
-        (
-            "seal;k",
-            Outcome::BadKeys { line: 1 },
-            "acl: k: document and 32 digits belong here\n",
-        ),
-        (
-            "preview;r",
-            Outcome::BadLicence { line: 1 },
-            "acl: r: the line 'licence 1' belongs here, without a seal, spaces or a carriage return\n",
-        ),
-        (
-            "seal;k",
-            Outcome::BadLicence { line: 1 },
-            "acl: standard input: the line 'licence 1' belongs here, without a seal, spaces or a carriage return\n",
-        ),
-        (
-            view,
-            Outcome::BadLicence { line: 1 },
-            "acl: standard input: the line of the seal belongs here, which acl seal sets before a body\n",
-        ),
-        (
-            view,
-            Outcome::BadSeal {
-                given: digest,
-                made: digest,
-            },
-            "acl: standard input: the licence was changed since it was sealed, or sealed with other keys\n",
-        ),
-        (
-            view,
-            Outcome::StoreFault,
-            "acl: s: it is missing, is a folder, or can't be read\n",
-        ),
-        (
-            view,
-            Outcome::BadHeader,
-            "acl: s: it is no file that acl encode makes\n",
-        ),
-        (
-            view,
-            Outcome::WrongRoot {
-                want: digest,
-                made: digest,
-            },
-            "acl: s: it is another file than the licence is for, or was changed; a body names its file by the root of encode\n",
-        ),
-        (
-            view,
-            Outcome::BadFragment {
-                index: 0,
-                want: digest,
-                made: digest,
-            },
-            "acl: s: it was changed\n",
-        ),
-        (
-            view,
-            Outcome::StoreShort { at: 64 },
-            "acl: s: it ends too early\n",
-        ),
-        (
-            "preview;r",
-            Outcome::BadRule { line: 4, at: 19 },
-            "acl: r: the path goes wrong behind its first 19 bytes, or ends there too early\n",
-        ),
-        (
-            view,
-            Outcome::BadLicence { line: 3 },
-            "acl: standard input: the line that acl encode said belongs here: root and 64 digits\n",
-        ),
-        (
-            "preview;r",
-            Outcome::BadLicence { line: 4 },
-            "acl: r: a rule is + or -, an id that no other rule has, and a path; then end, and no other lines\n",
-        ),
-        (
-            view,
-            Outcome::BadQuery { at: 0 },
-            "acl: the query: a path begins with / or //\n",
-        ),
-        (
-            "preview;r",
-            Outcome::BadLine { line: 1 },
-            "acl: standard input: the line is none of a document; examples/xml.sh makes lines of an XML file\n",
-        ),
-        (
-            "encode;k",
-            Outcome::SourceFault,
-            "acl: standard input: it can't be read\n",
-        ),
-        (
-            "sample;1",
-            Outcome::SinkFault,
-            "acl: standard output: it can't be written\n",
-        ),
-        ("sample;1", Outcome::Done, ""),
-    ] {
-        assert_eq!(rt; said(&rt, words, outcome)?.as_str(), wanted);
+    Some(match name {
+        "KeysFault" => Outcome::KeysFault,
+        "BadLine" => Outcome::BadLine { line: at },
+        "SecondRoot" => Outcome::SecondRoot { line: at },
+        "SourceFault" => Outcome::SourceFault,
+        "BadSeal" => Outcome::BadSeal {
+            given: digest,
+            made: digest,
+        },
+        "BadRule" => Outcome::BadRule { line: 4, at },
+        "BadLicence" => Outcome::BadLicence { line: at },
+        "BadKeys" => Outcome::BadKeys { line: at },
+        "BadQuery" => Outcome::BadQuery { at },
+        "BadHeader" => Outcome::BadHeader,
+        "WrongRoot" => Outcome::WrongRoot {
+            want: digest,
+            made: digest,
+        },
+        "StoreShort" => Outcome::StoreShort { at: 64 },
+        "StoreFault" => Outcome::StoreFault,
+        "BadFragment" => Outcome::BadFragment {
+            index: 0,
+            want: digest,
+            made: digest,
+        },
+        "SinkFault" => Outcome::SinkFault,
+        _ => return None,
+    })
+}
+
+/// Whether the text for an outcome is the line that a row wants: the outcome's name, its line or byte, the arguments
+/// and the line, with `|` between them.
+fn is_explained(alloc: Global, row: &str) -> Result<bool, Fail> {
+    let (name, rest) = row.split_once('|').ok_or("one field")?;
+    let (at, rest) = rest.split_once('|').ok_or("two fields")?;
+    let (arguments, wanted) = rest.split_once('|').ok_or("three fields")?;
+    let outcome = outcome_named(name, at.parse()?).ok_or("no outcome")?;
+    let text = text_for(alloc, arguments, outcome)?;
+    let (line, more) = text.as_str().split_once('\n').ok_or("no line")?;
+    Ok(line == wanted && more.is_empty())
+}
+
+const LINES: &str = "KeysFault|0|preview;r|acl: r: not found, or not a readable file
+KeysFault|0|view;k;s|acl: k: not found, or not a readable file
+BadLine|1|preview;r|acl: standard input: not a line of a document; examples/xml.sh converts XML files
+SecondRoot|3|encode;k|acl: standard input: something follows the end of the root
+SourceFault|0|encode;k|acl: standard input: cannot be read
+BadSeal|0|view;k;s|acl: standard input: the licence was changed since it was sealed, or sealed with other keys
+BadRule|19|preview;r|acl: r: the path is invalid after its first 19 bytes, or ends too early
+BadLicence|1|preview;r|acl: r: expected the line 'licence 1', without a seal, spaces or a carriage return
+BadLicence|1|seal;k|acl: standard input: expected the line 'licence 1', without a seal, spaces or a carriage return
+BadLicence|1|view;k;s|acl: standard input: expected the seal line, which acl seal writes before the body
+BadLicence|3|view;k;s|acl: standard input: expected the line that acl encode prints: 'root' and 64 hexadecimal digits
+BadLicence|4|preview;r|acl: r: expected a rule ('+' or '-', a unique id and a path), or 'end' as the last line
+BadKeys|1|seal;k|acl: k: expected 'document' and 32 hexadecimal digits
+BadKeys|3|seal;k|acl: k: something follows the two lines of the keys
+BadQuery|0|view;k;s;--query=/a|acl: the query: a path must begin with / or //
+BadHeader|0|view;k;s|acl: s: not a file made by acl encode
+WrongRoot|0|view;k;s|acl: s: the licence is for another file, or this one was changed; \
+    the root in a licence body is the one that acl encode prints
+StoreShort|0|view;k;s|acl: s: unexpected end of file
+StoreFault|0|view;k;s|acl: s: not found, or not a readable file
+BadFragment|0|view;k;s|acl: s: the file was changed
+SinkFault|0|sample;1|acl: standard output: cannot be written";
+
+#[test]
+fn an_outcome_is_explained(rt: HostRuntime) -> Result<(), Fail> {
+    for row in LINES.lines() {
+        assert!(rt; is_explained(rt.alloc(), row)?, "{row}");
     }
+    assert_eq!(rt;
+        text_for(rt.alloc(), "sample;1", Outcome::Done)?.as_str(),
+        ""
+    );
     Ok(())
 }

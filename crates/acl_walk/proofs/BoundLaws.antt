@@ -1,4 +1,4 @@
--- A document has no more events than its text has bytes, and one End.
+-- A document has at most one event more than its text has bytes.
 use Rattle.std.proofs.Common.{◌≡◌, ℕ, zero, suc, ◌+◌, ◌-◌, ◌/◌, ◌≤◌, List, [], ◌∷◌, ◌++◌, length, map, drop, ap, ◌∙◌, arith, length-append}
 use Rattle.std.proofs.lemmas.List.{length-map}
 use Rattle.std.specs.List.{concat, flat_map}
@@ -9,11 +9,11 @@ use Rattle.acl_model.specs.declared.document.Item.{Item}
 use Rattle.acl_model.specs.declared.document.Item.TheVariants as item
 use Rattle.acl_model.specs.declared.document.Element.{Element}
 use Rattle.acl_model.proofs.TextEquations.{element_text_is, item_text-Text, item_text-Child}
-use Rattle.acl_walk.specs.EventEquations.{element_events_is, item_events-Text, item_events-Child}
-use Rattle.acl_walk.specs.OpenElements.{items_events}
+use Rattle.acl_walk.specs.inside.EventEquations.{element_events_is, item_events-Text, item_events-Child}
+use Rattle.acl_walk.specs.inside.OpenElements.{items_events}
 use Rattle.acl_walk.specs.Pieces.{cut_after, pieces}
 use Rattle.acl_walk.specs.TreeEvents.{attribute_events, text_events, element_events, item_events, tag_number, document_events}
-use Rattle.acl_walk.specs.TreeInduction.{Each, element_by_parts}
+use Rattle.acl_walk.specs.inside.TreeInduction.{Each, element_by_parts}
 use Rattle.acl_walk.specs.declared.event.Event.{Event}
 use Rattle.acl_walk.specs.declared.event.Event.TheVariants.{Attr, HeadEnd, Text, Finish, End}
 
@@ -30,15 +30,15 @@ length-pieces bytes = length-cut_after ((length bytes - 1) / 256) bytes
 few_pieces : (bytes : List ℕ) → length (pieces bytes) ≤ length bytes + 1
 few_pieces bytes = omega (arith, length-pieces bytes)
 
--- a text has no more events than bytes, and one more
+-- a text has at most one event more than bytes
 pub few-text_events : (bytes : List ℕ) → length (text_events bytes) ≤ length bytes + 1
 few-text_events bytes = omega (arith, few_pieces bytes, length-map (pieces bytes) Text)
 
--- nor has an attribute
+-- an attribute has at most one event more than bytes
 pub few-attribute_events : (raw : List ℕ) → length (attribute_events raw) ≤ length raw + 1
 few-attribute_events raw = omega (arith, few_pieces raw, length-map (pieces raw) Attr)
 
--- the events of an element are those of its parts, and three more
+-- an element has three events more than its parts
 pub length-element_events : (names : List (List ℕ)) (e : Element) → length (element_events names e) ≡ length (flat_map attribute_events e.attributes) + length (items_events names e.items) + 3
 length-element_events names e =
     let tag : ℕ = tag_number names e.name in
@@ -64,7 +64,7 @@ few_in_attributes (raw ∷ raws) =
     )
 
 module _ (names : List (List ℕ)) where
-  -- an element has no more events than bytes
+  -- an element has at most as many events as bytes
   abbrev FewEvents : Element → Type 0
   FewEvents e = length (element_events names e) ≤ length (element_text e)
 
@@ -106,6 +106,6 @@ module _ (names : List (List ℕ)) where
   few_events : (e : Element) → FewEvents e
   few_events = element_by_parts FewEvents FewItemEvents few_of_text few_of_child few_of_element
 
-  -- a document has no more events than its text has bytes, and one more
+  -- a document has at most one event more than its text has bytes
   pub few-document_events : (d : Doc) → length (document_events names d) ≤ length (text d) + 1
   few-document_events d = omega (arith, few_events d.root, length-append (element_events names d.root) (End ∷ []))

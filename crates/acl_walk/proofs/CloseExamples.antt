@@ -1,11 +1,11 @@
--- The closes of some predicates in small documents, computed from their parts.
+-- Where some predicates close in small documents, computed from the documents' parts.
 use Rattle.std.proofs.Common.{◌≡◌, ℕ, Bool, true, false, ◌&&◌, ◌||◌, Option, Some, None, is_some, List, [], ◌∷◌, ◌++◌, length, map, refl, ap, ◌∙◌, arith, append_assoc, cond, find, flat_map, codes}
 use Rattle.std.specs.List.{list_any, slice_get, range_with_len}
 use Rattle.std.specs.Option.{option_and_then, option_map_or, option_or}
 use Rattle.acl_model.specs.Comparisons.{satisfies}
 use Rattle.acl_model.specs.Places.{at, below, children, numbered, places, places_of_item}
 use Rattle.acl_model.specs.Select.{is_kept}
-use Rattle.acl_model.specs.Targets.{step_of, way_leads}
+use Rattle.acl_model.specs.Targets.{step_of, path_leads}
 use Rattle.acl_model.specs.Values.{string_value}
 use Rattle.acl_model.specs.declared.document.Doc.{Doc}
 use Rattle.acl_model.specs.declared.document.Element.{Element}
@@ -23,9 +23,9 @@ use Rattle.acl_model.proofs.ValueEquations.{string_value_is, value_of_item-Text}
 use Rattle.acl_model.proofs.ViewEquations.{element_of-Text, element_of-Child}
 use Rattle.acl_walk.specs.Begun.{finishes_at}
 use Rattle.acl_walk.specs.Closes.{counted, meets, is_met_at, close}
-use Rattle.acl_walk.specs.CloseExamples.{small_names, small_p, small_x, small_with, small, small_with_id, small_events_with, small_events, small_events_with_id, to_child, has_p, has_child, x_is, has_id, letters, long, long_events, attribute_is, nested_names, nested_b, nested_a, empty_a, nested, nested_events, has_b}
-use Rattle.acl_walk.specs.EventEquations.{element_events_is, item_events-Text, item_events-Child}
-use Rattle.acl_walk.specs.PieceLaws.{pieces-short}
+use Rattle.acl_walk.specs.inside.CloseExamples.{small_names, small_p, small_x, small_with, small, small_with_id, small_events_with, small_events, small_events_with_id, to_child, has_p, has_child, x_is, has_id, letters, long, long_events, attribute_is, nested_names, nested_b, nested_a, empty_a, nested, nested_events, has_b}
+use Rattle.acl_walk.specs.inside.EventEquations.{element_events_is, item_events-Text, item_events-Child}
+use Rattle.acl_walk.specs.inside.PieceLaws.{pieces-short}
 use Rattle.acl_walk.specs.Pieces.{piece_of, pieces, cut_after}
 use Rattle.acl_walk.specs.Spelling.{tag_of}
 use Rattle.acl_walk.specs.TreeEvents.{attribute_events, document_events, element_events, item_events, tag_number, told_below}
@@ -48,20 +48,20 @@ x_events =
     ∙ ap (λ o. Begin 2 (cond (is_some o) (range_with_len 0 3) []) ∷ HeadEnd ∷ ((item_events small_names (item.Text (codes "z")) ++ []) ++ (Finish 2 ∷ []))) (element_of-Text (codes "z"))
     ∙ ap (λ es. Begin 2 [] ∷ HeadEnd ∷ ((es ++ []) ++ (Finish 2 ∷ []))) x_text
 
--- the events of the root behind its attributes
-abbrev behind_attributes : List Event
-behind_attributes =
+-- the events of the root after its attributes
+abbrev after_attributes : List Event
+after_attributes =
     HeadEnd ∷ Begin 1 [] ∷ HeadEnd ∷ Finish 1 ∷ Begin 2 [] ∷ HeadEnd ∷ Text (piece_of (codes "z") true) ∷ Finish 2 ∷ Finish 0 ∷ []
 
--- the events of the whole document, by those of the root's attributes
+-- the events of the whole document, from those of the root's attributes
 small_events_are : (attributes : List (List ℕ)) (heads : List Event) → flat_map attribute_events attributes ≡ heads → document_events small_names (small_with attributes) ≡ small_events_with heads
 unfolding tag_number tag_of told_below
 small_events_are attributes heads attribute_is =
     ap (λ es. es ++ (End ∷ [])) (element_events_is small_names (small_with attributes).root
     ∙ ap (λ es. Begin 0 (0 ∷ 1 ∷ 2 ∷ []) ∷ (flat_map attribute_events attributes ++ (HeadEnd ∷ ((es ++ (item_events small_names (item.Child small_x) ++ [])) ++ (Finish 0 ∷ []))))) (item_events-Child small_names small_p ∙ p_events)
     ∙ ap (λ es. Begin 0 (0 ∷ 1 ∷ 2 ∷ []) ∷ (flat_map attribute_events attributes ++ (HeadEnd ∷ (((Begin 1 [] ∷ HeadEnd ∷ Finish 1 ∷ []) ++ (es ++ [])) ++ (Finish 0 ∷ []))))) (item_events-Child small_names small_x ∙ x_events)
-    ∙ ap (λ hs. Begin 0 (0 ∷ 1 ∷ 2 ∷ []) ∷ (hs ++ behind_attributes)) attribute_is)
-    ∙ ap (λ es. Begin 0 (0 ∷ 1 ∷ 2 ∷ []) ∷ es) (append_assoc heads behind_attributes (End ∷ []))
+    ∙ ap (λ hs. Begin 0 (0 ∷ 1 ∷ 2 ∷ []) ∷ (hs ++ after_attributes)) attribute_is)
+    ∙ ap (λ es. Begin 0 (0 ∷ 1 ∷ 2 ∷ []) ∷ es) (append_assoc heads after_attributes (End ∷ []))
 
 pub small-events : document_events small_names small ≡ small_events
 small-events = small_events_are [] [] refl
@@ -101,22 +101,22 @@ find_same : (f g : ℕ → Bool) (xs : List ℕ) → ((i : ℕ) → f i ≡ g i)
 find_same f g [] same = refl
 find_same f g (x ∷ xs) same = ap (λ b. cond b (Some x) (find f xs)) (same x) ∙ ap (cond (g x) (Some x)) (find_same f g xs same)
 
--- the first number of the list's events that passes, or else that of the bearer's Finish
+-- the index of the first event that passes, or else that of the context node's Finish
 abbrev first_or_finish : List Event → List ℕ → (ℕ → Bool) → Option ℕ
 first_or_finish list bearer test = option_or (find test (counted (length list))) (find (finishes_at list bearer) (counted (length list)))
 
 close_by : (d : Doc) (list : List Event) (bearer : List ℕ) (pred : Pred) (test : ℕ → Bool) → ((i : ℕ) → is_met_at d list bearer pred i ≡ test i) → close d list bearer pred ≡ first_or_finish list bearer test
 close_by d list bearer pred test same = ap (λ o. option_or o (find (finishes_at list bearer) (counted (length list)))) (find_same (is_met_at d list bearer pred) test (counted (length list)) same)
 
--- an element is kept by the step, and meets
+-- an element passes the step and meets the predicate
 abbrev kept_and_meets : PredStep → Option Cmp → List Event → List ℕ → ℕ → Option Element → Bool
 kept_and_meets s cmp list place i o = is_kept (step_of s) o && option_map_or (meets list None cmp place i) o false
 
--- what meets a predicate with a step to children, by the two children
+-- which event meets a predicate with a step to children, for each of the two children
 met_at_children : (test : Test) (cmp : Option Cmp) (i : ℕ) → is_met_at small small_events [] (record { way = to_child test ∷ []; attribute = None; cmp = cmp }) i
     ≡ (kept_and_meets (to_child test) cmp small_events (1 ∷ []) i (Some small_p) || (kept_and_meets (to_child test) cmp small_events (2 ∷ []) i (Some small_x) || false))
 met_at_children test cmp i =
-    ap (list_any (λ place. way_leads small (to_child test ∷ []) [] place && option_map_or (meets small_events None cmp place i) (at small place) false)) (small_places [])
+    ap (list_any (λ place. path_leads small (to_child test ∷ []) [] place && option_map_or (meets small_events None cmp place i) (at small place) false)) (small_places [])
     ∙ ap (λ o. kept_and_meets (to_child test) cmp small_events (1 ∷ []) i o || (kept_and_meets (to_child test) cmp small_events (2 ∷ []) i (at small (2 ∷ [])) || false)) (p_at [])
     ∙ ap (λ o. kept_and_meets (to_child test) cmp small_events (1 ∷ []) i (Some small_p) || (kept_and_meets (to_child test) cmp small_events (2 ∷ []) i o || false)) (x_at [])
 
@@ -133,7 +133,7 @@ close-begin = close_of_child (test.Named (codes "p")) None
 pub close-first : close small small_events [] has_child ≡ Some 2
 close-first = close_of_child test.Any None
 
--- where the text of x is compared
+-- the event at which the text of x is compared
 close_of_text : (text : List ℕ) → close small small_events [] (x_is text)
     ≡ first_or_finish small_events [] (λ i. (satisfies Eq (operand.Text text) (codes "z") && finishes_at small_events (2 ∷ []) i) || false)
 close_of_text text =
@@ -149,7 +149,7 @@ close-unmet = close_of_text (codes "y")
 pub close-attribute : close small_with_id small_events_with_id [] has_id ≡ Some 1
 close-attribute =
     close_by small_with_id small_events_with_id [] has_id (λ i. meets small_events_with_id has_id.attribute None [] i small_with_id.root || false)
-    (λ i. ap (list_any (λ place. way_leads small_with_id [] [] place && option_map_or (meets small_events_with_id has_id.attribute None place i) (at small_with_id place) false)) (small_places small_with_id.root.attributes))
+    (λ i. ap (list_any (λ place. path_leads small_with_id [] [] place && option_map_or (meets small_events_with_id has_id.attribute None place i) (at small_with_id place) false)) (small_places small_with_id.root.attributes))
 
 -- ---- an attribute in two pieces
 
@@ -163,7 +163,7 @@ long_places = places_below_is long.root
 close_of_long : (text : List ℕ) → close long long_events [] (attribute_is text) ≡ first_or_finish long_events [] (λ i. meets long_events (Some (codes "x")) (attribute_is text).cmp [] i long.root || false)
 close_of_long text =
     close_by long long_events [] (attribute_is text) (λ i. meets long_events (Some (codes "x")) (attribute_is text).cmp [] i long.root || false)
-    (λ i. ap (list_any (λ place. way_leads long [] [] place && option_map_or (meets long_events (Some (codes "x")) (attribute_is text).cmp place i) (at long place) false)) long_places)
+    (λ i. ap (list_any (λ place. path_leads long [] [] place && option_map_or (meets long_events (Some (codes "x")) (attribute_is text).cmp place i) (at long place) false)) long_places)
 
 pub close-last_piece : close long long_events [] (attribute_is (letters 257)) ≡ Some 2
 close-last_piece = close_of_long (letters 257)
@@ -215,10 +215,10 @@ b_at =
     ap (λ es. option_and_then (λ c. below c (1 ∷ [])) (slice_get es 0)) (children-Child nested_a (item.Child empty_a ∷ []))
     ∙ ap (λ es. option_and_then (λ c. below c []) (slice_get es 0)) (children-Child nested_b [])
 
--- what meets [b] at a bearer, place by place
+-- which event meets [b] at a context node, place by place
 met_along : (bearer : List ℕ) (i : ℕ) → is_met_at nested nested_events bearer has_b i
-    ≡ list_any (λ place. way_leads nested has_b.way bearer place && option_map_or (meets nested_events None None place i) (at nested place) false) ([] ∷ (1 ∷ []) ∷ (1 ∷ 1 ∷ []) ∷ (2 ∷ []) ∷ [])
-met_along bearer i = ap (list_any (λ place. way_leads nested has_b.way bearer place && option_map_or (meets nested_events None None place i) (at nested place) false)) nested_places
+    ≡ list_any (λ place. path_leads nested has_b.way bearer place && option_map_or (meets nested_events None None place i) (at nested place) false) ([] ∷ (1 ∷ []) ∷ (1 ∷ 1 ∷ []) ∷ (2 ∷ []) ∷ [])
+met_along bearer i = ap (list_any (λ place. path_leads nested has_b.way bearer place && option_map_or (meets nested_events None None place i) (at nested place) false)) nested_places
 
 pub close-nested_begin : close nested nested_events (1 ∷ []) has_b ≡ Some 4
 close-nested_begin =

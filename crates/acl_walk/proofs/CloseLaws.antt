@@ -1,4 +1,5 @@
--- A predicate closes with one event of a list, between the Begin of its bearer and the Finish.
+-- A predicate closes with one event of a list, from the Begin of its context node (bearer) to its
+-- Finish.
 use Rattle.std.proofs.Common.{◌≡◌, ℕ, zero, suc, ◌+◌, ◌-◌, ◌<◌, ◌≤◌, true, false, nat_eq, ◌&&◌, Option, Some, None, is_some, List, [], ◌∷◌, ◌++◌, length, map, take, drop, refl, ap, sym, subst, ◌∙◌, inl, inr, ◌⊎◌, arith, append_assoc, add-one, find}
 use Rattle.std.proofs.lemmas.Bool.{true≢false, cases_lt}
 use Rattle.std.proofs.lemmas.Option.{same_Some, none-some}
@@ -10,7 +11,7 @@ use Rattle.acl_model.specs.Places.{at, prefixes}
 use Rattle.acl_model.specs.Predicates.{is_enough}
 use Rattle.acl_model.specs.Values.{string_value}
 use Rattle.acl_model.specs.Select.{NodeSet, ancestors, leads, is_kept, step, steps}
-use Rattle.acl_model.specs.Targets.{step_of, only, way_leads}
+use Rattle.acl_model.specs.Targets.{step_of, only, path_leads}
 use Rattle.acl_model.specs.declared.document.Doc.{Doc}
 use Rattle.acl_model.specs.declared.document.Element.{Element}
 use Rattle.acl_model.specs.declared.path.Axis.{Axis}
@@ -22,8 +23,8 @@ use Rattle.acl_model.proofs.ChainLaws.{proper}
 use Rattle.acl_model.proofs.Members.{Has, has_none, has_later, has_cases, has_left, has_right, has_append_cases}
 use Rattle.acl_walk.specs.Begun.{is_begin, is_finish, innermost_is_at, begins_at, finishes_at}
 use Rattle.acl_walk.specs.Closes.{is_last_of_attribute, attributes_at, ends_attribute_at, counted, has_enough, meets, is_met_at, close}
-use Rattle.acl_walk.specs.Open.{OpenPlace, next_place, with_child, open_after, open_behind, open_at, places_of}
-use Rattle.acl_walk.specs.OpenLaws.{places_of-with_child, places_of-prefixes}
+use Rattle.acl_walk.specs.Open.{OpenPlace, next_place, with_child, open_after, open_after_events, open_at, places_of}
+use Rattle.acl_walk.specs.inside.OpenLaws.{places_of-with_child, places_of-prefixes}
 use Rattle.acl_walk.specs.Spelling.{Spells}
 use Rattle.acl_walk.specs.declared.event.Event.{Event}
 use Rattle.acl_walk.specs.declared.event.Event.TheVariants.{Begin, Attr, HeadEnd, Text, Finish, End}
@@ -31,7 +32,7 @@ use Rattle.acl_walk.proofs.MeetLaws.{same_place, some_found, any_found, any_so, 
 use Rattle.acl_walk.proofs.BegunLaws.{stands_in_list}
 use Rattle.acl_walk.proofs.OnceLaws.{begins_once}
 
--- ---- that it closes
+-- ---- a predicate closes
 
 or_some : {X : Type 0} (o p : Option X) → is_some p ≡ true → is_some (option_or o p) ≡ true
 or_some None p so = so
@@ -42,7 +43,7 @@ pub close-some : (names : List (List ℕ)) (d : Doc) (list : List Event) (bearer
     → is_some (close d list bearer pred) ≡ true
 close-some names d list bearer e pred spells there =
     let s = stands_in_list names d list bearer e spells there in
-    let i : ℕ = length s.front + length s.own - 1 in
+    let i : ℕ = length s.prefix + length s.own - 1 in
     or_some (find (is_met_at d list bearer pred) (counted (length list))) (find (finishes_at list bearer) (counted (length list)))
     (find_any (finishes_at list bearer) (counted (length list))
     (any_so (finishes_at list bearer) (counted (length list)) i
@@ -52,7 +53,7 @@ or_cases : {X : Type 0} (o p : Option X) (x : X) → option_or o p ≡ Some x �
 or_cases None p x so = inr so
 or_cases (Some y) p x so = inl so
 
--- It does with an event of the list that meets it, or with the Finish of its bearer.
+-- It closes with an event of the list that meets it, or with the Finish of its context node.
 close_cases : (d : Doc) (list : List Event) (bearer : List ℕ) (pred : Pred) (i : ℕ) → close d list bearer pred ≡ Some i
     → (i < length list) × ((is_met_at d list bearer pred i ≡ true) ⊎ (finishes_at list bearer i ≡ true))
 close_cases d list bearer pred i so = elim (or_cases (find (is_met_at d list bearer pred) (counted (length list))) (find (finishes_at list bearer) (counted (length list))) i so) [
@@ -60,7 +61,7 @@ close_cases d list bearer pred i so = elim (or_cases (find (is_met_at d list bea
   | inr unmet ↦ let found = find_has (finishes_at list bearer) (counted (length list)) i unmet in (counted_within (length list) i found.0, inr found.1)
 ]
 
--- The event is one of the list.
+-- The event is in the list.
 pub close-within : (d : Doc) (list : List Event) (bearer : List ℕ) (pred : Pred) (i : ℕ) → close d list bearer pred ≡ Some i → i < length list
 close-within d list bearer pred i so = (close_cases d list bearer pred i so).0
 
@@ -70,11 +71,11 @@ prefixes_are : (place : List ℕ) → prefixes place ≡ place ∷ proper place
 prefixes_are [] = refl
 prefixes_are (k ∷ place) = ap (λ ps. map (λ prefix. k ∷ prefix) ps ++ ([] ∷ [])) (prefixes_are place)
 
--- a place is one of its own
+-- a place is a prefix of itself
 own_prefix : (place : List ℕ) → Has (prefixes place) place
 own_prefix place = subst (λ ps. Has ps place) (sym (prefixes_are place)) (0, refl)
 
--- the others are shorter
+-- its other prefixes are shorter
 proper_shorter : (place p : List ℕ) → Has (proper place) p → length p < length place
 proper_shorter [] p h = absurd (has_none p h)
 proper_shorter (k ∷ place) p h = elim (has_append_cases (map (λ prefix. k ∷ prefix) (proper place)) ([] ∷ []) p h) [
@@ -101,7 +102,7 @@ prefix_has [] [] = (0, refl)
 prefix_has [] (k ∷ rest) = has_right (map (λ prefix. k ∷ prefix) (prefixes rest)) ([] ∷ []) [] (0, refl)
 prefix_has (k ∷ p) rest = has_left (map (λ prefix. k ∷ prefix) (prefixes (p ++ rest))) ([] ∷ []) (k ∷ p) (has_map (λ prefix. k ∷ prefix) (prefixes (p ++ rest)) p (prefix_has p rest))
 
--- a prefix of a prefix is one
+-- a prefix of a prefix is a prefix
 prefix_further : (place p q : List ℕ) → Has (prefixes place) p → Has (prefixes p) q → Has (prefixes place) q
 prefix_further place p q h g =
     let outer = prefix_begins place p h in
@@ -109,7 +110,7 @@ prefix_further place p q h g =
     let whole : q ++ (inner.0 ++ outer.0) ≡ place = sym (outer.1 ∙ ap (λ r. r ++ outer.0) inner.1 ∙ append_assoc q inner.0 outer.0) in
     subst (λ r. Has (prefixes r) q) whole (prefix_has q (inner.0 ++ outer.0))
 
--- ---- a way leads down from its bearer
+-- ---- a path leads down from its context node
 
 has_of_drop : {X : Type 0} (xs : List X) (x : X) → Has (drop 1 xs) x → Has xs x
 has_of_drop [] x h = h
@@ -119,7 +120,7 @@ has_of_take : {X : Type 0} (xs : List X) (x : X) → Has (take 1 xs) x → Has x
 has_of_take [] x h = h
 has_of_take (y ∷ xs) x h = elim (has_cases y x [] h) [ inl same ↦ (0, ap Some same) | inr later ↦ absurd (has_none x later) ]
 
--- a member of a set at a prefix of the place
+-- a member of a set of places is a prefix of the place
 abbrev MemberAbove : NodeSet → List ℕ → Type 0
 MemberAbove set place = (m : List ℕ) × (set (Some m) ≡ true) × Has (prefixes place) m
 
@@ -146,8 +147,8 @@ steps_from d (s ∷ way) set place outside so =
     let first = led_from s.axis set last.0 outside (first_so (leads s.axis set last.0) (is_kept (step_of s) (at d last.0)) last.1) in
     (first.0, first.1, prefix_further place last.0 first.0 last.2 first.2)
 
--- The bearer's place is a prefix of each place to which the way leads from it.
-way_below : (d : Doc) (way : List PredStep) (bearer place : List ℕ) → way_leads d way bearer place ≡ true → Has (prefixes place) bearer
+-- The context node's place is a prefix of each place to which the path leads from it.
+way_below : (d : Doc) (way : List PredStep) (bearer place : List ℕ) → path_leads d way bearer place ≡ true → Has (prefixes place) bearer
 way_below d way bearer place led =
     let found = steps_from d way (only bearer) place refl led in
     subst (Has (prefixes place)) (same_text found.0 bearer (sym found.1)) found.2
@@ -158,33 +159,33 @@ innermost : (elements : List OpenPlace) (place : List ℕ) → innermost_is_at p
 innermost [] place so = absurd (true≢false (sym so))
 innermost (element ∷ up) place so = (element, up, refl, same_text element.place place (sym so))
 
--- Where the innermost open element is at a place, that of each prefix is open.
+-- Where the innermost open element is at a place, the element at each prefix of it is open.
 open_above : (list : List Event) (m : ℕ) (place p : List ℕ) → innermost_is_at place (open_at list m) ≡ true → Has (prefixes place) p → Has (places_of (open_at list m)) p
 open_above list m place p so h =
     let i = innermost (open_at list m) place so in
     let chain : places_of (open_at list m) ≡ prefixes place = ap places_of i.2 ∙ places_of-prefixes list m i.0 i.1 i.2 ∙ ap prefixes i.3 in
     subst (λ ps. Has ps p) (sym chain) h
 
--- Behind the Finish of an element it isn't open.
-abbrev behind : List OpenPlace → List (List ℕ)
-behind elements = places_of (drop 1 elements)
+-- After its Finish an element isn't open.
+abbrev after : List OpenPlace → List (List ℕ)
+after elements = places_of (drop 1 elements)
 
-not_behind : (list : List Event) (m : ℕ) (place : List ℕ) → innermost_is_at place (open_at list m) ≡ true → Has (behind (open_at list m)) place → ⊥
-not_behind list m place so h =
+not_after : (list : List Event) (m : ℕ) (place : List ℕ) → innermost_is_at place (open_at list m) ≡ true → Has (after (open_at list m)) place → ⊥
+not_after list m place so h =
     let i = innermost (open_at list m) place so in
     let chain : i.0.place ∷ places_of i.1 ≡ place ∷ proper place = places_of-prefixes list m i.0 i.1 i.2 ∙ ap prefixes i.3 ∙ prefixes_are place in
     let others : places_of i.1 ≡ proper place = ap (drop 1) chain in
-    let above : Has (proper place) place = subst (λ ps. Has ps place) (ap behind i.2 ∙ others) h in
+    let above : Has (proper place) place = subst (λ ps. Has ps place) (ap after i.2 ∙ others) h in
     let less = proper_shorter place place above in
     omega (arith, less)
 
 open-next : (elements : List OpenPlace) (list : List Event) (i : ℕ) (event : Event) → slice_get list i ≡ Some event
-    → open_behind elements (take (suc i) list) ≡ open_after (open_behind elements (take i list)) event
+    → open_after_events elements (take (suc i) list) ≡ open_after (open_after_events elements (take i list)) event
 open-next elements [] i event is = absurd (none-some event is)
 open-next elements (e ∷ list) zero event is = ap (open_after elements) (same_Some e event is)
 open-next elements (e ∷ list) (suc i) event is = open-next (open_after elements e) list i event is
 
-open-past : (elements : List OpenPlace) (list : List Event) (i : ℕ) → slice_get list i ≡ None → open_behind elements (take (suc i) list) ≡ open_behind elements (take i list)
+open-past : (elements : List OpenPlace) (list : List Event) (i : ℕ) → slice_get list i ≡ None → open_after_events elements (take (suc i) list) ≡ open_after_events elements (take i list)
 open-past elements [] zero is = refl
 open-past elements [] (suc i) is = refl
 open-past elements (e ∷ list) zero is = absurd (none-some e (sym is))
@@ -198,13 +199,13 @@ after_finish elements (Text piece) so = absurd (true≢false (sym so))
 after_finish elements (Finish tag) so = refl
 after_finish elements End so = absurd (true≢false (sym so))
 
-not_open_behind : (list : List Event) (place : List ℕ) (i : ℕ) → finishes_at list place i ≡ true → Has (places_of (open_at list (suc i))) place → ⊥
-not_open_behind list place i so h =
+not_open_after : (list : List Event) (place : List ℕ) (i : ℕ) → finishes_at list place i ≡ true → Has (places_of (open_at list (suc i))) place → ⊥
+not_open_after list place i so h =
     let event = some_found is_finish (slice_get list i) (first_so (option_map_or is_finish (slice_get list i) false) (innermost_is_at place (open_at list i)) so) in
     let closed : open_at list (suc i) ≡ drop 1 (open_at list i) = open-next [] list i event.0 event.1 ∙ after_finish (open_at list i) event.0 event.2 in
-    not_behind list i place (second_so (option_map_or is_finish (slice_get list i) false) (innermost_is_at place (open_at list i)) so) (subst (λ es. Has (places_of es) place) closed h)
+    not_after list i place (second_so (option_map_or is_finish (slice_get list i) false) (innermost_is_at place (open_at list i)) so) (subst (λ es. Has (places_of es) place) closed h)
 
--- What is open behind an event was open before it, or begins with it.
+-- An element that is open after an event was open before it, or begins with it.
 opened : (elements : List OpenPlace) (event : Event) (place : List ℕ) → Has (places_of (open_after elements event)) place
     → Has (places_of elements) place ⊎ ((is_begin event ≡ true) × (innermost_is_at place (open_after elements event) ≡ true))
 opened elements (Begin tag below) place h = elim (has_cases (next_place elements) place (places_of (with_child elements)) h) [
@@ -218,7 +219,7 @@ opened [] (Finish tag) place h = inl h
 opened (element ∷ up) (Finish tag) place h = inl (has_later element.place place (places_of up) h)
 opened elements End place h = inl h
 
--- from the first place on, an element at this place of the document begins before the second
+-- the element at this place of the document begins at an index from s on and before i
 abbrev BeginsBetween : List Event → List ℕ → ℕ → ℕ → Type 0
 BeginsBetween list place s i = (b : ℕ) × (s ≤ b) × (b < i) × (begins_at list place b ≡ true)
 
@@ -237,7 +238,7 @@ begins_here list place s i event is late begin so = (
 later_end : (list : List Event) (place : List ℕ) (s i : ℕ) → BeginsBetween list place s i → BeginsBetween list place s (suc i)
 later_end list place s i b = (b.0, b.1, omega (arith, b.2), b.3)
 
--- What is open behind the event at a place was open before it, or begins there.
+-- An element that is open after the event at an index was open before it, or begins there.
 begun_step : (list : List Event) (place : List ℕ) (s i : ℕ) (o : Option Event) → s ≤ i → slice_get list i ≡ o → Has (places_of (open_at list (suc i))) place
     → Has (places_of (open_at list i)) place ⊎ BeginsBetween list place s (suc i)
 begun_step list place s i None late is h = inl (subst (λ es. Has (places_of es) place) (open-past [] list i is) h)
@@ -251,7 +252,7 @@ begun_step list place s i (Some event) late is h =
 at_or_before : (s i : ℕ) → s ≤ suc i → (suc i ≡ s) ⊎ (s ≤ i)
 at_or_before s i late = elim (cases_lt i s) [ inl more ↦ inl (omega (arith, late, more)) | inr less ↦ inr less ]
 
--- What is open at a place of the list was open at one before, or has begun since.
+-- An element that is open at an index was open at the earlier index s, or has begun since.
 begun_since : (list : List Event) (place : List ℕ) (s i : ℕ) → s ≤ i → Has (places_of (open_at list i)) place → Has (places_of (open_at list s)) place ⊎ BeginsBetween list place s i
 begun_since list place s zero late h = let same : zero ≡ s = omega (arith, late) in inl (subst (λ k. Has (places_of (open_at list k)) place) same h)
 begun_since list place s (suc i) late h = elim (at_or_before s i late) [
@@ -268,7 +269,7 @@ module _ (names : List (List ℕ)) (d : Doc) (list : List Event) (spells : Spell
   begun_before : (place : List ℕ) (m : ℕ) → Has (places_of (open_at list m)) place → BeginsBetween list place 0 m
   begun_before place m h = elim (begun_since list place 0 m (omega arith) h) [ inl none ↦ absurd (has_none place none) | inr begins ↦ begins ]
 
-  -- Where an element is open, its Begin is before, and its Finish isn't.
+  -- Where an element is open, its Begin comes before, and its Finish doesn't.
   between : (place : List ℕ) (begin m finish : ℕ) → Has (places_of (open_at list m)) place → begins_at list place begin ≡ true → finishes_at list place finish ≡ true → (begin < m) × (m ≤ finish)
   between place begin m finish h begins finishes =
       let first = begun_before place m h in
@@ -276,12 +277,12 @@ module _ (names : List (List ℕ)) (d : Doc) (list : List Event) (spells : Spell
       let over : (finish < m) → ⊥ = λ less.
       let around = begun_before place finish (open_above list finish place place (second_so (option_map_or is_finish (slice_get list finish) false) (innermost_is_at place (open_at list finish)) finishes) (own_prefix place)) in
       elim (begun_since list place (suc finish) m (omega (arith, less)) h) [
-        | inl still ↦ not_open_behind list place finish finishes still
+        | inl still ↦ not_open_after list place finish finishes still
         | inr again ↦ let twice : again.0 ≡ around.0 = begins_once names d list place again.0 around.0 spells again.3 around.3 in omega (arith, again.1, around.2, twice)
       ] in
       (omega (arith, same, first.2), elim (cases_lt finish m) [ inl less ↦ absurd (over less) | inr more ↦ more ])
 
-  -- An event that meets a value of an element is one at which the element is open.
+  -- Where an event shows that an element meets a predicate, the element is open.
   open_where_met : (attribute : Option (List ℕ)) (cmp : Option Cmp) (place : List ℕ) (i : ℕ) (x : Element) → meets list attribute cmp place i x ≡ true
       → (m : ℕ) × (i ≤ m) × (m ≤ i + 1) × (innermost_is_at place (open_at list m) ≡ true)
   open_where_met None None place i x met = (i + 1, omega arith, omega arith, second_so (option_map_or is_begin (slice_get list i) false) (innermost_is_at place (open_at list (i + 1))) met)
@@ -294,7 +295,7 @@ module _ (names : List (List ℕ)) (d : Doc) (list : List Event) (spells : Spell
       let inner = second_so (option_map_or is_last_of_attribute (slice_get list i) false) (innermost_is_at place (open_at list i) && nat_eq (attributes_at list i) found.0) ends in
       (i, omega arith, omega arith, first_so (innermost_is_at place (open_at list i)) (nat_eq (attributes_at list i) found.0) inner)
 
-  -- A predicate closes between the Begin of its bearer and the Finish.
+  -- A predicate closes from the Begin of its context node to its Finish.
   pub close-inside : (bearer : List ℕ) (pred : Pred) (begin i finish : ℕ) → close d list bearer pred ≡ Some i → begins_at list bearer begin ≡ true → finishes_at list bearer finish ≡ true
       → (begin ≤ i) × (i ≤ finish)
   close-inside bearer pred begin i finish so begins finishes = elim (close_cases d list bearer pred i so).1 [

@@ -1,33 +1,34 @@
--- The Finish of the innermost open element: what comes before it is passed over as a whole.
+-- The Finish of the innermost open element. from_finish skips whole elements, attributes and texts
+-- before it.
 use Rattle.std.proofs.Common.{◌≡◌, ℕ, suc, List, [], ◌∷◌, ◌++◌, map, ap, ◌∙◌, refl, append_assoc}
 use Rattle.std.specs.List.{flat_map}
 use Rattle.acl_bits.specs.declared.piece.Piece.{Piece}
 use Rattle.acl_model.specs.declared.document.Item.{Item}
 use Rattle.acl_model.specs.declared.document.Item.TheVariants as item
 use Rattle.acl_model.specs.declared.document.Element.{Element}
-use Rattle.acl_walk.specs.OpenElements.{OpenElement, items_events, content_to_come, finish_to_come}
+use Rattle.acl_walk.specs.inside.OpenElements.{OpenElement, items_events, content_to_come, finish_to_come}
 use Rattle.acl_walk.specs.Pieces.{pieces}
-use Rattle.acl_walk.specs.Standing.{from_finish}
+use Rattle.acl_walk.specs.SpotMoves.{from_finish}
 use Rattle.acl_walk.specs.TreeEvents.{tag_number, attribute_events, element_events, item_events}
-use Rattle.acl_walk.specs.TreeSteps.{head_to_come, to_come}
+use Rattle.acl_walk.specs.inside.TreeSteps.{head_to_come, to_come}
 use Rattle.acl_walk.specs.declared.event.Event.{Event}
 use Rattle.acl_walk.specs.declared.event.Event.TheVariants.{Attr, HeadEnd, Text, Finish}
 use Rattle.acl_walk.specs.declared.tree_step.Now.{Now}
 use Rattle.acl_walk.specs.declared.tree_step.Now.TheVariants as now
-use Rattle.acl_walk.specs.EventEquations.{element_events-append, item_events-Text, item_events-Child}
-use Rattle.acl_walk.specs.TreeInduction.{Each, element_by_parts, each_by_parts}
+use Rattle.acl_walk.specs.inside.EventEquations.{element_events-append, item_events-Text, item_events-Child}
+use Rattle.acl_walk.specs.inside.TreeInduction.{Each, element_by_parts, each_by_parts}
 
--- pieces of an attribute are passed over
+-- it skips pieces of an attribute
 past_attr : (n : ℕ) (parts : List Piece) (rest : List Event) → from_finish n (map Attr parts ++ rest) ≡ from_finish n rest
 past_attr n [] rest = refl
 past_attr n (part ∷ parts) rest = past_attr n parts rest
 
--- pieces of a text
+-- it skips pieces of a text
 past_text : (n : ℕ) (parts : List Piece) (rest : List Event) → from_finish n (map Text parts ++ rest) ≡ from_finish n rest
 past_text n [] rest = refl
 past_text n (part ∷ parts) rest = past_text n parts rest
 
--- attributes
+-- it skips attributes
 past_attributes : (n : ℕ) (raws : List (List ℕ)) (rest : List Event) → from_finish n (flat_map attribute_events raws ++ rest) ≡ from_finish n rest
 past_attributes n [] rest = refl
 past_attributes n (raw ∷ raws) rest =
@@ -35,11 +36,11 @@ past_attributes n (raw ∷ raws) rest =
     ∙ past_attr n (pieces raw) (flat_map attribute_events raws ++ rest) ∙ past_attributes n raws rest
 
 module _ (names : List (List ℕ)) where
-  -- an item's events are passed over
+  -- it skips the events of an item
   abbrev IsPassed : Item → Type 0
   IsPassed item = (n : ℕ) (rest : List Event) → from_finish n (item_events names item ++ rest) ≡ from_finish n rest
 
-  -- those of an element
+  -- it skips the events of an element
   abbrev AllPassed : Element → Type 0
   AllPassed e = (n : ℕ) (rest : List Event) → from_finish n (element_events names e ++ rest) ≡ from_finish n rest
 
@@ -74,8 +75,7 @@ module _ (names : List (List ℕ)) where
   past_head : (raws : List (List ℕ)) (level : OpenElement) (levels : List OpenElement) → from_finish 0 (head_to_come names raws (level ∷ levels)) ≡ finish_to_come names (level ∷ levels)
   past_head raws level levels = past_attributes 0 raws (HeadEnd ∷ content_to_come names (level ∷ levels)) ∙ past_content level levels
 
-  -- From each place in a tree the Finish of the innermost open element is the next one of no
-  -- element that begins before.
+  -- From each position in a tree, from_finish leads to the Finish of the innermost open element.
   pub from_finish-to_come : (place : Now) (level : OpenElement) (levels : List OpenElement)
       → from_finish 0 (to_come names place (level ∷ levels)) ≡ finish_to_come names (level ∷ levels)
   from_finish-to_come (now.Root e) level levels = past_element e.now 0 (content_to_come names (level ∷ levels)) ∙ past_content level levels

@@ -1,5 +1,5 @@
--- Each name in a document that is spelled under names is known, and so it is under the document's own
--- dictionary, by which it can be walked.
+-- Each name in a document is known under the names by which a list spells it, and under the
+-- document's dictionary. So the document can be walked under its dictionary.
 use Rattle.std.proofs.Common.{◌≡◌, ℕ, ◌^◌, ◌-◌, ◌<◌, ◌≤◌, Bool, true, false, not, nat_eq, nat_le, ◌&&◌, ◌||◌, Some, is_some, List, [], ◌∷◌, ◌++◌, length, map, ap, sym, ◌∙◌, refl, arith}
 use Rattle.std.specs.List.{list_all, list_any, flat_map}
 use Rattle.std.specs.Cmp.{first_so, second_so}
@@ -17,8 +17,8 @@ use Rattle.acl_model.specs.declared.document.Element.{Element}
 use Rattle.acl_model.proofs.DictionaryLaws.{start_names_is, item_start_names-Text, item_start_names-Child, with_name-there, with_name-new, are_new-last}
 use Rattle.acl_model.proofs.FormEquations.{well_formed_is, item_well_formed-Text, item_well_formed-Child}
 use Rattle.acl_walk.specs.Spelling.{tag_of, SpellsElement, an_element, SpellsItems, no_item, a_text, a_child, Spells, a_document}
-use Rattle.acl_walk.specs.TagLaws.{tag_of-name, is_some-name_number}
-use Rattle.acl_walk.specs.TreeInduction.{Each, element_by_parts}
+use Rattle.acl_walk.specs.inside.TagLaws.{tag_of-name, is_some-name_number}
+use Rattle.acl_walk.specs.inside.TreeInduction.{Each, element_by_parts}
 use Rattle.acl_walk.specs.TreeState.{is_known, knows, CanBeWalked}
 use Rattle.acl_walk.specs.declared.event.Event.{Event}
 use Rattle.acl_walk.proofs.BoundLaws.{few-document_events}
@@ -69,7 +69,7 @@ distinct_by names name true there distinct = ap are_distinct (with_name-there na
 distinct_by names name false new distinct =
     ap are_distinct (with_name-new names name new) ∙ are_new-last [] names name ∙ both (are_distinct names) (not (has_name names name)) distinct (ap not new)
 
--- names that join distinct ones stay distinct
+-- new names added to distinct ones keep them distinct
 distinct-with_names : (names more : List (List ℕ)) → are_distinct names ≡ true → are_distinct (with_names names more) ≡ true
 distinct-with_names names [] distinct = distinct
 distinct-with_names names (name ∷ more) distinct = distinct-with_names (with_name names name) more (distinct_by names name (has_name names name) refl distinct)
@@ -80,7 +80,7 @@ had_by names name other false new has =
     ap (λ ns. has_name ns other) (with_name-new names name new) ∙ list_any-append (pointwise nat_eq other) names (name ∷ [])
     ∙ ap (λ b. b || list_any (pointwise nat_eq other) (name ∷ [])) has
 
--- a name isn't lost where more join
+-- a name stays among the names where more are added
 had-with_names : (names more : List (List ℕ)) (name : List ℕ) → has_name names name ≡ true → has_name (with_names names more) name ≡ true
 had-with_names names [] name has = has
 had-with_names names (other ∷ more) name has = had-with_names (with_name names other) more name (had_by names other name (has_name names other) refl has)
@@ -91,7 +91,7 @@ joined_by names name false new =
     ap (λ ns. has_name ns name) (with_name-new names name new) ∙ list_any-append (pointwise nat_eq name) names (name ∷ [])
     ∙ ap (λ b. list_any (pointwise nat_eq name) names || (b || false)) (nat_list_eq_equiv.refl name) ∙ or_true (list_any (pointwise nat_eq name) names)
 
--- names that join are known
+-- names that are added are known
 known-with_names : (names more : List (List ℕ)) → list_all (is_known (with_names names more)) more ≡ true
 known-with_names names [] = refl
 known-with_names names (name ∷ more) =
@@ -101,15 +101,15 @@ known-with_names names (name ∷ more) =
 
 -- ---- documents are view documents
 
--- A name is a name of a view.
+-- Each name is a name of a view document.
 view_name : (name : List ℕ) → is_name name ≡ true → is_view_name name ≡ true
 view_name name good = ap (λ b. b || is_dummy_name name) good
 
--- An element of the right form has that of a view.
+-- A well-formed element of a document is well-formed in a view document.
 abbrev IsInView : Element → Type 0
 IsInView e = is_well_formed is_name e ≡ true → is_well_formed is_view_name e ≡ true
 
--- So has an item.
+-- The same is true of an item.
 abbrev ItemIsInView : Item → Type 0
 ItemIsInView i = item_well_formed is_name i ≡ true → item_well_formed is_view_name i ≡ true
 
@@ -148,7 +148,7 @@ document_in_view d good =
     (element_by_parts IsInView ItemIsInView text_in_view child_in_view element_in_view d.root (first_so (is_well_formed is_name d.root) (nat_le (height d.root) 255) good))
     (second_so (is_well_formed is_name d.root) (nat_le (height d.root) 255) good)
 
--- A document can be walked under its dictionary, where that has at most 256 names and the text is
+-- A document can be walked under its dictionary, if that has at most 256 names and the text is
 -- short.
 pub document_can_be_walked : (d : Doc) → is_document d ≡ true → length (dictionary d) ≤ 256 → length (text d) < 2 ^ 64 - 1
     → CanBeWalked (record { doc = d; names = dictionary d })

@@ -1,5 +1,5 @@
--- A list that spells a view document nests, whatever sets it tells; and it nests also where an
--- element is passed over.
+-- A list that spells a view document nests, whatever sets its Begins have. It still nests after a
+-- pass.
 use Rattle.std.proofs.Common.{◌≡◌, ℕ, ◌+◌, ◌≤◌, Bool, true, not, nat_eq, ◌&&◌, Some, List, [], ◌∷◌, ◌++◌, length, map, take, ap, sym, subst, ◌∙◌, refl, append_assoc, arith}
 use Rattle.std.specs.List.{list_all}
 use Rattle.std.specs.Cmp.{first_so, second_so}
@@ -16,27 +16,27 @@ use Rattle.acl_model.proofs.FormEquations.{well_formed_is, item_well_formed-Text
 use Rattle.acl_walk.specs.Pieces.{Joins, alone, onward}
 use Rattle.acl_walk.specs.Spelling.{SpellsAttributes, no_attribute, an_attribute, SpellsElement, an_element, SpellsItems, no_item, a_text, a_child, Spells, a_document}
 use Rattle.acl_walk.specs.Nesting.{Phase, at_start, in_head, in_content, at_finish, at_end, MayBegin, MayCome, content_phase, Nest}
-use Rattle.acl_walk.specs.Standing.{from_finish}
+use Rattle.acl_walk.specs.SpotMoves.{from_finish}
 use Rattle.acl_walk.specs.declared.event.Event.{Event}
 use Rattle.acl_walk.specs.declared.event.Event.TheVariants.{Begin, Attr, HeadEnd, Text, Finish, End}
-use Rattle.acl_walk.specs.TagLaws.{tag_of-within}
+use Rattle.acl_walk.specs.inside.TagLaws.{tag_of-within}
 
 -- ---- parts of lines fit lines
 
 both_so : (s t : Bool) → s ≡ true → t ≡ true → (s && t) ≡ true
 both_so s t p q = ap (λ b. b && t) p ∙ q
 
-fits_parts : (front back : List ℕ) → is_within_line (front ++ back) ≡ true → (is_within_line front ≡ true) × (is_within_line back ≡ true)
-fits_parts front back fits =
-    let bytes : (list_all is_byte front && list_all is_byte back) ≡ true = sym (list_all-append is_byte front back) ∙ first_so _ (lacks line_feed (front ++ back)) fits in
-    let clean : (lacks line_feed front && lacks line_feed back) ≡ true = sym (list_all-append (λ b. not (nat_eq b line_feed)) front back) ∙ second_so (list_all is_byte (front ++ back)) (lacks line_feed (front ++ back)) fits in (
-      both_so (list_all is_byte front) (lacks line_feed front) (first_so (list_all is_byte front) (list_all is_byte back) bytes) (first_so (lacks line_feed front) (lacks line_feed back) clean),
-      both_so (list_all is_byte back) (lacks line_feed back) (second_so (list_all is_byte front) (list_all is_byte back) bytes) (second_so (lacks line_feed front) (lacks line_feed back) clean),
+fits_parts : (prefix back : List ℕ) → is_within_line (prefix ++ back) ≡ true → (is_within_line prefix ≡ true) × (is_within_line back ≡ true)
+fits_parts prefix back fits =
+    let bytes : (list_all is_byte prefix && list_all is_byte back) ≡ true = sym (list_all-append is_byte prefix back) ∙ first_so _ (lacks line_feed (prefix ++ back)) fits in
+    let clean : (lacks line_feed prefix && lacks line_feed back) ≡ true = sym (list_all-append (λ b. not (nat_eq b line_feed)) prefix back) ∙ second_so (list_all is_byte (prefix ++ back)) (lacks line_feed (prefix ++ back)) fits in (
+      both_so (list_all is_byte prefix) (lacks line_feed prefix) (first_so (list_all is_byte prefix) (list_all is_byte back) bytes) (first_so (lacks line_feed prefix) (lacks line_feed back) clean),
+      both_so (list_all is_byte back) (lacks line_feed back) (second_so (list_all is_byte prefix) (list_all is_byte back) bytes) (second_so (lacks line_feed prefix) (lacks line_feed back) clean),
     )
 
 -- ---- where a root or a child may begin
 
--- an element may begin in the phase, as far as that goes
+-- an element may begin in the phase, if its tag and the number of open elements allow it
 abbrev Starts : Phase → Type 0
 Starts at_start = Unit {0}
 Starts in_head = ⊥
@@ -57,15 +57,15 @@ may_begin names deep tags at_end tag below starts may = absurd starts
 nest_attr : (names deep : ℕ) (tags : List ℕ) (bytes : List ℕ) (parts : List Piece) (rest : List Event) → Joins bytes parts → is_within_line bytes ≡ true
     → Nest names deep tags in_head rest → Nest names deep tags in_head (map Attr parts ++ rest)
 nest_attr names deep tags bytes parts rest (alone bs short) fits nest = (fits, nest)
-nest_attr names deep tags bytes parts rest (onward front back more some short behind joins) fits nest =
-    let both = fits_parts front back fits in
+nest_attr names deep tags bytes parts rest (onward prefix back more some short after joins) fits nest =
+    let both = fits_parts prefix back fits in
     (both.0, nest_attr names deep tags back more rest joins both.1 nest)
 
 nest_text : (names deep : ℕ) (tag : ℕ) (tags : List ℕ) (bytes : List ℕ) (parts : List Piece) (rest : List Event) → Joins bytes parts → is_within_line bytes ≡ true
     → Nest names deep (tag ∷ tags) in_content rest → Nest names deep (tag ∷ tags) in_content (map Text parts ++ rest)
 nest_text names deep tag tags bytes parts rest (alone bs short) fits nest = (fits, nest)
-nest_text names deep tag tags bytes parts rest (onward front back more some short behind joins) fits nest =
-    let both = fits_parts front back fits in
+nest_text names deep tag tags bytes parts rest (onward prefix back more some short after joins) fits nest =
+    let both = fits_parts prefix back fits in
     (both.0, nest_text names deep tag tags back more rest joins both.1 nest)
 
 nest_attributes : (names deep : ℕ) (tags : List ℕ) (raws : List (List ℕ)) (heads rest : List Event) → SpellsAttributes raws heads → list_all is_raw_attribute raws ≡ true
@@ -79,7 +79,7 @@ nest_attributes names deep tags raws heads rest (an_attribute raw parts more eve
 
 -- ---- elements
 
--- what is known of an element's parts, where it is of the right form
+-- what is known of an element's parts, if it is well-formed
 form_parts : (e : Element) → is_well_formed is_view_name e ≡ true
     → (list_all is_raw_attribute e.attributes ≡ true) × (list_all (λ b. b) (map (item_well_formed is_view_name) e.items) ≡ true)
 form_parts e formed =
@@ -124,7 +124,7 @@ mutual
       (nest_element names deep (tag ∷ tags) in_content e own_events (events ++ rest) spelled tt (sym (item_well_formed-Child is_view_name e) ∙ own) (omega arith)
       (nest_items names deep tag tags more events rest spells others (omega arith) nest))
 
--- ---- an element that is passed over
+-- ---- a pass
 
 finish_is_innermost : (names deep : ℕ) (tags : List ℕ) (phase : Phase) (tag : ℕ) → MayCome names deep tags phase (Finish tag) → take 1 tags ≡ tag ∷ []
 finish_is_innermost names deep tags at_start tag may = absurd may
@@ -133,7 +133,7 @@ finish_is_innermost names deep tags in_content tag may = may
 finish_is_innermost names deep tags at_finish tag may = may
 finish_is_innermost names deep tags at_end tag may = absurd may
 
--- From the Finish of the innermost open element on, what nested nests.
+-- Events that nest still nest from the Finish of the innermost open element on.
 pub nest-from_finish : (names deep : ℕ) (inner : List ℕ) (tag : ℕ) (tags : List ℕ) (phase : Phase) (events : List Event)
     → Nest names deep (inner ++ (tag ∷ tags)) phase events → Nest names deep (tag ∷ tags) at_finish (from_finish (length inner) events)
 nest-from_finish names deep inner tag tags phase [] nest = tt
@@ -147,8 +147,8 @@ nest-from_finish names deep inner tag tags phase (End ∷ events) nest = tt
 
 -- ---- documents
 
--- A list that spells a view document nests, with at most as many open elements as stand in each
--- other.
+-- A list that spells a view document nests, with at most as many open elements as the document is
+-- high.
 pub nest-document : (names : List (List ℕ)) (d : Doc) (events : List Event) → Spells names (Some d) events → is_view_document d ≡ true
     → Nest (length names) (height d.root) [] at_start events
 nest-document names d events (a_document ns doc own spells) formed =

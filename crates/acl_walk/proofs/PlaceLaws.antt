@@ -1,26 +1,26 @@
--- How a step and a pass move a spot of a tree along the tree's list.
+-- How a step and a pass move a position in a tree along the tree's list.
 use Rattle.std.proofs.Common.{◌≡◌, ℕ, zero, suc, ◌+◌, ◌-◌, ◌<◌, ◌≤◌, List, [], ◌∷◌, length, drop, ap, sym, subst, ◌∙◌, arith, length-drop}
 use Rattle.std.proofs.lemmas.List.{drop_all}
 use Rattle.acl_walk.specs.Nesting.{Phase, at_start, in_head, in_content, at_finish, at_end, MayCome, tags_after, phase_after, Nest}
-use Rattle.acl_walk.specs.Standing.{StandsAt, from_finish, Falls}
-use Rattle.acl_walk.specs.TreeSteps.{Comes}
-use Rattle.acl_walk.specs.TreeSpots.{EndsWith}
+use Rattle.acl_walk.specs.SpotMoves.{StandsAt, from_finish, Falls}
+use Rattle.acl_walk.specs.inside.TreeSteps.{Comes}
+use Rattle.acl_walk.specs.inside.TreeSpots.{EndsWith}
 use Rattle.acl_walk.specs.declared.event.Event.{Event}
 use Rattle.acl_walk.specs.declared.event.Event.TheVariants.{Begin, Attr, HeadEnd, Text, Finish, End}
 
 -- ---- the end of a list
 
--- a list ends with itself
+-- a list is a suffix of itself
 pub ends-whole : (whole : List Event) → EndsWith whole whole
 ends-whole whole =
     let none : length whole - length whole ≡ 0 = omega arith in
     record { shorter = omega arith; same = ap (λ k. drop k whole) none }
 
--- and with nothing
+-- the empty list is a suffix
 ends-nil : (whole : List Event) → EndsWith whole []
 ends-nil whole = record { shorter = omega arith; same = drop_all (length whole - 0) whole (omega arith) }
 
--- one step further
+-- without the first event of a suffix
 drop_next : (n : ℕ) (whole : List Event) (event : Event) (rest : List Event) → drop n whole ≡ event ∷ rest → drop (n + 1) whole ≡ rest
 drop_next zero [] event rest begins = cc
 drop_next (suc n) [] event rest begins = cc
@@ -37,7 +37,7 @@ ends-tail whole event rest ends =
       same = ap (λ k. drop k whole) place ∙ drop_next (length whole - length (event ∷ rest)) whole event rest ends.same;
     }
 
--- the event at the place
+-- the event at the position
 stands-tail : (whole : List Event) (event : Event) (rest : List Event) → EndsWith whole (event ∷ rest)
     → drop (length whole - length (event ∷ rest)) whole ≡ event ∷ drop (length whole - length (event ∷ rest) + 1) whole
 stands-tail whole event rest ends = ends.same ∙ ap (λ events. event ∷ events) (sym (drop_next (length whole - length (event ∷ rest)) whole event rest ends.same))
@@ -48,7 +48,7 @@ next_place whole event rest ends = omega (arith, ends.shorter)
 
 -- ---- a step
 
--- what is to come after a step is the end of the list too
+-- the events to come after a step are a suffix of the list, too
 pub ends-step : (whole : List Event) (event : Event) (old new : List Event) → Comes event old new → EndsWith whole old → EndsWith whole new
 ends-step whole (Begin tag below) old new comes ends = ends-tail whole (Begin tag below) new (subst (EndsWith whole) comes ends)
 ends-step whole (Attr piece) old new comes ends = ends-tail whole (Attr piece) new (subst (EndsWith whole) comes ends)
@@ -66,7 +66,7 @@ stands-next whole event old new begins ends =
       subst (λ k. length whole - length new ≡ length whole - k + 1) same (next_place whole event new at),
     )
 
--- a step gives the event at the place, and the place behind it
+-- a step gives the event at the index, and leads to the next index
 pub stands-step : (whole : List Event) (event : Event) (old new : List Event) → Comes event old new → EndsWith whole old
     → StandsAt whole (length whole - length old) event (length whole - length new)
 stands-step whole (Begin tag below) old new comes ends = let s = stands-next whole (Begin tag below) old new comes ends in record { there = s.0; moved = s.1 }
@@ -91,7 +91,7 @@ nest_head : (names deep : ℕ) (tags : List ℕ) (phase : Phase) (event : Event)
     → MayCome names deep tags phase event × Nest names deep (tags_after tags event) (phase_after tags event) new
 nest_head names deep tags phase event old new begins nest = subst (Nest names deep tags phase) begins nest
 
--- the event of a step may come, and what is to come after it nests
+-- the event of a step may come, and the events to come after it nest
 pub nest-step : (names deep : ℕ) (tags : List ℕ) (phase : Phase) (event : Event) (old new : List Event) → Comes event old new → Nest names deep tags phase old
     → MayCome names deep tags phase event × Nest names deep (tags_after tags event) (phase_after tags event) new
 nest-step names deep tags phase (Begin tag below) old new comes nest = nest_head names deep tags phase (Begin tag below) old new comes nest
@@ -110,7 +110,7 @@ begin_few names deep tags in_content tag below may = may.1
 begin_few names deep tags at_finish tag below may = absurd may
 begin_few names deep tags at_end tag below may = absurd may
 
--- and no more elements are open behind it than may be
+-- after a step at most `deep` elements are open
 pub few-step : (names deep : ℕ) (tags : List ℕ) (phase : Phase) (event : Event) → MayCome names deep tags phase event → length tags ≤ deep
     → length (tags_after tags event) ≤ deep
 few-step names deep tags phase (Begin tag below) may few = let fewer = begin_few names deep tags phase tag below may in omega (arith, fewer)
@@ -122,7 +122,7 @@ few-step names deep tags phase End may few = few
 
 -- ---- a pass
 
--- the Finish of the innermost open element is in the end of the list
+-- the events from the innermost element's Finish on are a suffix of the list
 pub ends-from_finish : (whole : List Event) (n : ℕ) (events : List Event) → EndsWith whole events → EndsWith whole (from_finish n events)
 ends-from_finish whole n [] ends = ends
 ends-from_finish whole n (Begin tag below ∷ events) ends = ends-from_finish whole (suc n) events (ends-tail whole (Begin tag below) events ends)
@@ -133,7 +133,7 @@ ends-from_finish whole zero (Finish tag ∷ events) ends = ends
 ends-from_finish whole (suc n) (Finish tag ∷ events) ends = ends-from_finish whole n events (ends-tail whole (Finish tag) events ends)
 ends-from_finish whole n (End ∷ events) ends = ends-nil whole
 
--- it is no longer than what was to come
+-- they are at most as many as the events to come were
 pub shorter-from_finish : (n : ℕ) (events : List Event) → length (from_finish n events) ≤ length events
 shorter-from_finish n [] = omega arith
 shorter-from_finish n (Begin tag below ∷ events) = omega (arith, shorter-from_finish (suc n) events)

@@ -1,16 +1,15 @@
--- The spots of a walk over a tree: a new one, one after a step, and one that passed over an
--- element.
+-- The positions (spots) of a walk over a tree: a new one, one after a step, and one after a pass.
 use Rattle.std.proofs.Common.{◌≡◌, ℕ, ◌<◌, ◌≤◌, List, [], ◌∷◌, ◌++◌, length, drop, ap, sym, subst, ◌∙◌, arith, Bor}
 use Rattle.std.proofs.lemmas.List.{length-map}
 use Rattle.acl_model.specs.declared.document.Element.{Element}
 use Rattle.acl_walk.specs.Nesting.{Nest, at_start, at_finish, tags_after, content_phase, phase_after}
-use Rattle.acl_walk.specs.OpenElements.{OpenElement, tags_of, content_to_come, finish_to_come}
-use Rattle.acl_walk.specs.Standing.{StandsAt, PassesTo, from_finish}
+use Rattle.acl_walk.specs.inside.OpenElements.{OpenElement, tags_of, content_to_come, finish_to_come}
+use Rattle.acl_walk.specs.SpotMoves.{StandsAt, PassesTo, from_finish}
 use Rattle.acl_walk.specs.TreeEvents.{element_events}
 use Rattle.acl_walk.specs.TreeState.{Tree, CanBeWalked}
-use Rattle.acl_walk.specs.TreeSteps.{to_come, phase_of, Steps}
-use Rattle.acl_walk.specs.TreeSpots.{EndsWith, IsSpotOf, spot_to_come, spot_place, tree_depth, tree_events}
-use Rattle.acl_walk.specs.SpellLaws.{document_events-spell}
+use Rattle.acl_walk.specs.inside.TreeSteps.{to_come, phase_of, Steps}
+use Rattle.acl_walk.specs.inside.TreeSpots.{EndsWith, IsSpotOf, spot_to_come, spot_place, tree_depth, tree_events}
+use Rattle.acl_walk.specs.inside.SpellLaws.{document_events-spell}
 use Rattle.acl_walk.specs.declared.event.Event.{Event}
 use Rattle.acl_walk.specs.declared.event.Event.TheVariants.{Begin, Attr, HeadEnd, Text, Finish, End}
 use Rattle.acl_walk.specs.declared.tree_step.Now.{Now}
@@ -20,7 +19,7 @@ use Rattle.acl_walk.proofs.FinishLaws.{from_finish-to_come}
 use Rattle.acl_walk.proofs.NestLaws.{nest-document, nest-from_finish}
 use Rattle.acl_walk.proofs.PlaceLaws.{ends-whole, ends-step, stands-step, nest-step, few-step, ends-from_finish, shorter-from_finish}
 
--- at the root, with no open element, is a spot
+-- the position at the root, with no open element, is a spot
 pub new-is_spot : (k : Tree) (levels : List OpenElement) (root : Bor Element) → CanBeWalked k → levels ≡ [] → root.now ≡ k.doc.root
     → IsSpotOf k (record { levels = levels; now = now.Root root })
 new-is_spot k levels root walked none same =
@@ -38,7 +37,7 @@ new-is_spot k levels root walked none same =
       inside = tt;
     }
 
--- the same of a tree that is equal
+-- the same for an equal tree
 pub new-is_spot_of : (tree k : Tree) (levels : List OpenElement) (root : Bor Element) → CanBeWalked tree → tree ≡ k → levels ≡ [] → root.now ≡ tree.doc.root
     → IsSpotOf k (record { levels = levels; now = now.Root root })
 new-is_spot_of tree k levels root walked is none same =
@@ -48,7 +47,7 @@ content-not_start : (tags : List ℕ) → content_phase tags ≡ at_start → �
 content-not_start [] start = cc
 content-not_start (tag ∷ tags) start = cc
 
--- behind an event no spot is before the first one
+-- after an event a spot isn't before the first event
 after-not_start : (tags : List ℕ) (event : Event) → phase_after tags event ≡ at_start → ⊥
 after-not_start tags (Begin tag below) start = cc
 after-not_start tags (Attr piece) start = cc
@@ -57,7 +56,7 @@ after-not_start tags (Text piece) start = cc
 after-not_start tags (Finish tag) start = content-not_start (drop 1 tags) start
 after-not_start tags End start = cc
 
--- so is the place behind a step
+-- the position after a step is a spot
 pub step-is_spot : (k : Tree) (old new : TreeSpot) (event : Event) → IsSpotOf k old
     → Steps k.names event (spot_to_come k old) (tags_of old.levels) new.now new.levels → IsSpotOf k new
 step-is_spot k old new event made steps =
@@ -78,7 +77,7 @@ step-is_spot k old new event made steps =
       inside = steps.inside;
     }
 
--- the event of a step is that of the list at the spot's place
+-- the event of a step is the list's at the spot's index
 pub step-stands : (k : Tree) (old new : TreeSpot) (event : Event) → IsSpotOf k old
     → Steps k.names event (spot_to_come k old) (tags_of old.levels) new.now new.levels
     → StandsAt (tree_events k) (spot_place k old) event (spot_place k new)
@@ -87,7 +86,7 @@ step-stands k old new event made steps = stands-step (tree_events k) event (spot
 finish_not_start : at_finish ≡ at_start → ⊥
 finish_not_start start = cc
 
--- a spot that passes over the innermost open element stays one
+-- after a pass of the innermost open element a spot is still a spot
 pub pass-is_spot : (k : Tree) (levels : List OpenElement) (place : Now) → 0 < length levels
     → IsSpotOf k (record { levels = levels; now = place }) → IsSpotOf k (record { levels = levels; now = now.Finish })
 pass-is_spot k [] place some made = absurd (omega (arith, some))
@@ -103,7 +102,7 @@ pass-is_spot k (level ∷ levels) place some made =
       inside = tt;
     }
 
--- and it is at the Finish of that element
+-- after a pass the spot is at the Finish of that element
 pub pass-to_finish : (k : Tree) (levels : List OpenElement) (place : Now) → 0 < length levels
     → IsSpotOf k (record { levels = levels; now = place })
     → PassesTo (tags_of levels) (tree_events k) (spot_place k (record { levels = levels; now = place })) (spot_place k (record { levels = levels; now = now.Finish }))
@@ -112,7 +111,7 @@ pass-to_finish k (level ∷ levels) place some made =
     let after : IsSpotOf k (record { levels = level ∷ levels; now = now.Finish }) = pass-is_spot k (level ∷ levels) place some made in
     after.rest.same ∙ sym (ap (from_finish 0) made.rest.same ∙ from_finish-to_come k.names place level levels)
 
--- and no more events are to come than were
+-- after a pass at most as many events are to come as before
 pub pass-no_more : (k : Tree) (levels : List OpenElement) (place : Now) → 0 < length levels
     → length (finish_to_come k.names levels) ≤ length (to_come k.names place levels)
 pass-no_more k [] place some = absurd (omega (arith, some))

@@ -1,19 +1,19 @@
--- What a step from each place in a tree does.
+-- What a step from each position in a tree does.
 use Rattle.std.proofs.Common.{◌≡◌, ℕ, ◌<◌, List, [], ◌∷◌, ◌++◌, length, ap, sym, subst, ◌∙◌, refl, append_assoc, arith, Bor}
 use Rattle.std.specs.List.{flat_map}
 use Rattle.acl_model.specs.declared.document.Item.{Item}
 use Rattle.acl_model.specs.declared.document.Item.TheVariants.{Text, Child}
 use Rattle.acl_model.specs.declared.document.Element.{Element}
-use Rattle.acl_walk.specs.OpenElements.{OpenElement, with_item, items_events, content_to_come, finish_to_come, tags_of, NothingLeft}
+use Rattle.acl_walk.specs.inside.OpenElements.{OpenElement, with_item, items_events, content_to_come, finish_to_come, tags_of, NothingLeft}
 use Rattle.acl_walk.specs.TreeEvents.{told_below, tag_number, attribute_events, text_events, element_events, item_events}
-use Rattle.acl_walk.specs.TreeSteps.{head_to_come, Steps}
+use Rattle.acl_walk.specs.inside.TreeSteps.{head_to_come, Steps}
 use Rattle.acl_walk.specs.declared.event.Event.{Event}
 use Rattle.acl_walk.specs.declared.event.Event.TheVariants.{Begin, HeadEnd, Finish}
 use Rattle.acl_walk.specs.declared.tree_step.Now.{Now}
 use Rattle.acl_walk.specs.declared.tree_step.Now.TheVariants as now
-use Rattle.acl_walk.specs.EventEquations.{element_events-append, item_events-Text, item_events-Child}
+use Rattle.acl_walk.specs.inside.EventEquations.{element_events-append, item_events-Text, item_events-Child}
 
--- An element that is to come is its Begin, and then what is to come in its head with it open.
+-- The events of an element that is to come are its Begin and then the events to come in its head.
 pub begin-element : (names : List (List ℕ)) (e : Element) (levels : List OpenElement) (level : OpenElement)
     → level ≡ record { tag = tag_number names e.name; items = e.items }
     → element_events names e ++ content_to_come names levels
@@ -22,30 +22,30 @@ begin-element names e levels level is =
     element_events-append names e (content_to_come names levels)
     ∙ ap (λ (l : OpenElement). Begin (tag_number names e.name) (told_below (length names) e.items) ∷ head_to_come names e.attributes (l ∷ levels)) (sym is)
 
--- What is to come with an item before the others is that item's events and the rest.
+-- The events to come with an item before the others are that item's events and the rest.
 pub content-with_item : (names : List (List ℕ)) (item : Item) (levels : List OpenElement) → 0 < length levels
     → content_to_come names (with_item item levels) ≡ item_events names item ++ content_to_come names levels
 content-with_item names item [] some = absurd (omega arith)
 content-with_item names item (level ∷ levels) some = append_assoc (item_events names item) (items_events names level.items) (Finish level.tag ∷ content_to_come names levels)
 
--- The tags stay.
+-- The tags stay the same.
 pub tags_of-with_item : (item : Item) (levels : List OpenElement) → tags_of (with_item item levels) ≡ tags_of levels
 tags_of-with_item item [] = refl
 tags_of-with_item item (level ∷ levels) = refl
 
--- As many are open.
+-- As many elements are open.
 pub length-with_item : (item : Item) (levels : List OpenElement) → length (with_item item levels) ≡ length levels
 length-with_item item [] = refl
 length-with_item item (level ∷ levels) = refl
 
--- Where nothing is left, the Finish is to come.
+-- Where no item is left, the Finish comes next.
 pub content-left : (names : List (List ℕ)) (levels : List OpenElement) → NothingLeft levels → content_to_come names levels ≡ finish_to_come names levels
 content-left names [] left = refl
 content-left names (level ∷ levels) left = ap (λ items. items_events names items ++ (Finish level.tag ∷ content_to_come names levels)) left
 
 -- ---- the steps
 
--- The same step, from a list and tags that are equal.
+-- The same step, from an equal list and equal tags.
 pub steps-same : (names : List (List ℕ)) (event : Event) (list list' : List Event) (tags tags' : List ℕ) (place : Now) (levels : List OpenElement)
     → list' ≡ list → tags' ≡ tags → Steps names event list tags place levels → Steps names event list' tags' place levels
 steps-same names event list list' tags tags' place levels same-list same-tags h =
@@ -91,7 +91,7 @@ child-steps names event levels taken new item e place was some is h =
     ∙ ap (λ events. events ++ content_to_come names taken) (item_events-Child names e))
     (ap tags_of was ∙ tags_of-with_item item taken) h
 
--- the step in a content of which nothing is left
+-- the step in a content of which no item is left
 pub finish-steps : (names : List (List ℕ)) (event : Event) (levels taken new : List OpenElement) (place : Now)
     → NothingLeft levels → taken ≡ levels → Steps names event (finish_to_come names taken) (tags_of taken) place new
     → Steps names event (content_to_come names levels) (tags_of levels) place new

@@ -1,4 +1,4 @@
--- A list that spells a document tells the document's lines.
+-- A list that spells a document gives the document's lines.
 use Rattle.std.proofs.Common.{◌≡◌, ℕ, ◌<◌, ◌≤◌, Bool, true, false, nat_eq, eqb, cond, Some, List, [], ◌∷◌, ◌++◌, length, map, get_or, ap, sym, ◌∙◌, refl, append_assoc, append-nil, arith}
 use Rattle.std.specs.List.{concat}
 use Rattle.std.specs.Cmp.Lexicographic.{pointwise, same_text}
@@ -17,7 +17,7 @@ use Rattle.acl_model.proofs.TextEquations.{element_text_is, item_text-Text, item
 use Rattle.acl_walk.specs.EventText.{name_of_tag, text_of_events}
 use Rattle.acl_walk.specs.Pieces.{Joins, alone, onward}
 use Rattle.acl_walk.specs.Spelling.{tag_of, SpellsAttributes, no_attribute, an_attribute, SpellsElement, an_element, SpellsItems, no_item, a_text, a_child, Spells, a_document}
-use Rattle.acl_walk.specs.TagLaws.{tag_of-dummy, tag_of-name}
+use Rattle.acl_walk.specs.inside.TagLaws.{tag_of-dummy, tag_of-name}
 use Rattle.acl_walk.specs.declared.event.Event.{Event}
 use Rattle.acl_walk.specs.declared.event.Event.TheVariants.{Attr, HeadEnd, Text, Finish, End}
 
@@ -39,50 +39,50 @@ named_by_dummy names name tag false few other found =
     let differs : eqb tag 256 ≡ false = grind (arith, nat_tests) in
     ap (λ b. cond b (hyphen ∷ []) (get_or names tag [])) differs ∙ sym (same_text name (get_or names tag []) (sym there.1))
 
--- a name has its tag's name
+-- the name of a name's tag is the name
 named : (names : List (List ℕ)) (name : List ℕ) (tag : ℕ) → length names ≤ 256 → tag_of names name ≡ Some tag → name_of_tag names tag ≡ name
 named names name tag few found = named_by_dummy names name tag (is_dummy_name name) few refl found
 
 -- ---- pieces
 
 module _ (names : List (List ℕ)) where
-  -- what is told of events behind which a text comes, whatever element began last
+  -- events give this text, whatever element began last
   abbrev Tells : List Event → List ℕ → Type 0
   Tells events told = (tag : ℕ) → text_of_events names tag false events ≡ told
 
   inside_attr : (bytes : List ℕ) (parts : List Piece) (tag : ℕ) (rest : List Event) → Joins bytes parts
       → text_of_events names tag true (map Attr parts ++ rest) ≡ (bytes ++ (line_feed ∷ [])) ++ text_of_events names tag false rest
   inside_attr bytes parts tag rest (alone bs short) = refl
-  inside_attr bytes parts tag rest (onward front back more some short behind joins) =
+  inside_attr bytes parts tag rest (onward prefix back more some short after joins) =
       let R : List ℕ = text_of_events names tag false rest in
-      ap (λ l. l ++ text_of_events names tag true (map Attr more ++ rest)) (append-nil front) ∙ ap (λ l. front ++ l) (inside_attr back more tag rest joins)
-      ∙ sym (append_assoc front (back ++ (line_feed ∷ [])) R) ∙ ap (λ l. l ++ R) (sym (append_assoc front back (line_feed ∷ [])))
+      ap (λ l. l ++ text_of_events names tag true (map Attr more ++ rest)) (append-nil prefix) ∙ ap (λ l. prefix ++ l) (inside_attr back more tag rest joins)
+      ∙ sym (append_assoc prefix (back ++ (line_feed ∷ [])) R) ∙ ap (λ l. l ++ R) (sym (append_assoc prefix back (line_feed ∷ [])))
 
   told_attr : (bytes : List ℕ) (parts : List Piece) (tag : ℕ) (rest : List Event) → Joins bytes parts
       → text_of_events names tag false (map Attr parts ++ rest) ≡ line capital_a bytes ++ text_of_events names tag false rest
   told_attr bytes parts tag rest (alone bs short) = refl
-  told_attr bytes parts tag rest (onward front back more some short behind joins) =
+  told_attr bytes parts tag rest (onward prefix back more some short after joins) =
       let R : List ℕ = text_of_events names tag false rest in
       ap (λ l. capital_a ∷ l)
-      (ap (λ l. l ++ text_of_events names tag true (map Attr more ++ rest)) (append-nil front) ∙ ap (λ l. front ++ l) (inside_attr back more tag rest joins)
-      ∙ sym (append_assoc front (back ++ (line_feed ∷ [])) R) ∙ ap (λ l. l ++ R) (sym (append_assoc front back (line_feed ∷ []))))
+      (ap (λ l. l ++ text_of_events names tag true (map Attr more ++ rest)) (append-nil prefix) ∙ ap (λ l. prefix ++ l) (inside_attr back more tag rest joins)
+      ∙ sym (append_assoc prefix (back ++ (line_feed ∷ [])) R) ∙ ap (λ l. l ++ R) (sym (append_assoc prefix back (line_feed ∷ []))))
 
   inside_text : (bytes : List ℕ) (parts : List Piece) (tag : ℕ) (rest : List Event) → Joins bytes parts
       → text_of_events names tag true (map Text parts ++ rest) ≡ (bytes ++ (line_feed ∷ [])) ++ text_of_events names tag false rest
   inside_text bytes parts tag rest (alone bs short) = refl
-  inside_text bytes parts tag rest (onward front back more some short behind joins) =
+  inside_text bytes parts tag rest (onward prefix back more some short after joins) =
       let R : List ℕ = text_of_events names tag false rest in
-      ap (λ l. l ++ text_of_events names tag true (map Text more ++ rest)) (append-nil front) ∙ ap (λ l. front ++ l) (inside_text back more tag rest joins)
-      ∙ sym (append_assoc front (back ++ (line_feed ∷ [])) R) ∙ ap (λ l. l ++ R) (sym (append_assoc front back (line_feed ∷ [])))
+      ap (λ l. l ++ text_of_events names tag true (map Text more ++ rest)) (append-nil prefix) ∙ ap (λ l. prefix ++ l) (inside_text back more tag rest joins)
+      ∙ sym (append_assoc prefix (back ++ (line_feed ∷ [])) R) ∙ ap (λ l. l ++ R) (sym (append_assoc prefix back (line_feed ∷ [])))
 
   told_text : (bytes : List ℕ) (parts : List Piece) (tag : ℕ) (rest : List Event) → Joins bytes parts
       → text_of_events names tag false (map Text parts ++ rest) ≡ line hyphen bytes ++ text_of_events names tag false rest
   told_text bytes parts tag rest (alone bs short) = refl
-  told_text bytes parts tag rest (onward front back more some short behind joins) =
+  told_text bytes parts tag rest (onward prefix back more some short after joins) =
       let R : List ℕ = text_of_events names tag false rest in
       ap (λ l. hyphen ∷ l)
-      (ap (λ l. l ++ text_of_events names tag true (map Text more ++ rest)) (append-nil front) ∙ ap (λ l. front ++ l) (inside_text back more tag rest joins)
-      ∙ sym (append_assoc front (back ++ (line_feed ∷ [])) R) ∙ ap (λ l. l ++ R) (sym (append_assoc front back (line_feed ∷ []))))
+      (ap (λ l. l ++ text_of_events names tag true (map Text more ++ rest)) (append-nil prefix) ∙ ap (λ l. prefix ++ l) (inside_text back more tag rest joins)
+      ∙ sym (append_assoc prefix (back ++ (line_feed ∷ [])) R) ∙ ap (λ l. l ++ R) (sym (append_assoc prefix back (line_feed ∷ []))))
 
 told_attributes : (names raws : List (List ℕ)) (heads : List Event) (tag : ℕ) (rest : List Event) → SpellsAttributes raws heads
     → text_of_events names tag false (heads ++ rest) ≡ concat (map (line capital_a) raws) ++ text_of_events names tag false rest

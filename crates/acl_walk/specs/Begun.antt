@@ -1,4 +1,4 @@
--- Where the elements of a document begin and finish in a list of events. This project's own.
+-- Where the elements of a document begin and finish in a list of events. Defined by this project.
 use Rattle.std.specs.Prelude.{◌≡◌, ℕ, ◌+◌, ◌-◌, Bool, true, false, nat_eq, ◌&&◌, List, [], ◌∷◌, ◌++◌, length}
 use Rattle.std.specs.Cmp.Lexicographic.{pointwise}
 use Rattle.std.specs.List.{slice_get}
@@ -27,31 +27,31 @@ is_finish (Text piece) = false
 is_finish (Finish tag) = true
 is_finish End = false
 
--- Of the open elements the innermost is the one at this place of the document.
+-- The innermost of these open elements is the one at this place of the document.
 abbrev pub innermost_is_at : List ℕ → List OpenPlace → Bool
 innermost_is_at place [] = false
 innermost_is_at place (element ∷ up) = pointwise nat_eq element.place place
 
--- An element begins at the place i of a list where the event there is a Begin, and behind it the
--- innermost open element is the one at this place of the document.
+-- The element at this place of the document begins at index i of a list: the event there is a Begin, and
+-- after it the element is the innermost open one.
 abbrev pub begins_at : List Event → List ℕ → ℕ → Bool
 begins_at list place i =
     option_map_or is_begin (slice_get list i) false && innermost_is_at place (open_at list (i + 1))
 
--- It finishes at the place i where the event there is a Finish, and before it the innermost open
--- element is the one at this place of the document.
+-- The element at this place of the document finishes at index i of a list: the event there is a Finish,
+-- and before it the element is the innermost open one.
 abbrev pub finishes_at : List Event → List ℕ → ℕ → Bool
 finishes_at list place i =
     option_map_or is_finish (slice_get list i) false && innermost_is_at place (open_at list i)
 
--- The element at a place of the document stands in a list: events of the list's own middle spell
--- it, it begins at the first of them, and finishes at the last.
+-- The element at a place of the document is a part of the list: consecutive events (`own`) spell it, it
+-- begins at the first of them, and it finishes at the last.
 pub record StandsInList (names : List (List ℕ)) (list : List Event) (place : List ℕ) (e : Element)
     : Type 0 where
-  pub front : List Event
+  pub prefix : List Event
   pub own : List Event
   pub back : List Event
-  pub cut : list ≡ front ++ (own ++ back)
+  pub cut : list ≡ prefix ++ (own ++ back)
   pub spelled : SpellsElement names e own
-  pub begins : begins_at list place (length front) ≡ true
-  pub finishes : finishes_at list place (length front + length own - 1) ≡ true
+  pub begins : begins_at list place (length prefix) ≡ true
+  pub finishes : finishes_at list place (length prefix + length own - 1) ≡ true

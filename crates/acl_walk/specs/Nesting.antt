@@ -1,13 +1,14 @@
--- Which event may come where, whatever a walk stands for: events nest, tags are those of names,
--- pieces fit a line, and at most so many elements are open. This project's own.
+-- Which events may come at a position, whatever document a walk stands for: events nest, tags are those
+-- of names, pieces contain no line feed, and the number of open elements is bounded. Defined by this
+-- project.
 use Rattle.std.specs.Prelude.{◌≡◌, ◌⊎◌, ℕ, ◌<◌, true, List, [], ◌∷◌, length, drop, take}
 use Rattle.acl_bits.specs.declared.piece.Piece.{Piece}
 use Rattle.acl_model.specs.Lines.{is_within_line}
 use Rattle.acl_walk.specs.declared.event.Event.{Event}
 use Rattle.acl_walk.specs.declared.event.Event.TheVariants.{Begin, Attr, HeadEnd, Text, Finish, End}
 
--- A spot is before the first event, in the head of the innermost open element, in its content, at
--- its Finish with all else of it left out, or past the last element.
+-- Where a position (spot) is: before the first event, in the head of the innermost open element, in its
+-- content, at its Finish after a pass, or after the root's Finish.
 pub data Phase : Type 0 where
   at_start : Phase
   in_head : Phase
@@ -15,31 +16,31 @@ pub data Phase : Type 0 where
   at_finish : Phase
   at_end : Phase
 
--- where a spot is: the tags of the open elements, the innermost first, and the phase
+-- the stage of a position: the tags of the open elements, the innermost first, and the phase
 pub record Stage : Type 0 where
   pub tags : List ℕ
   pub phase : Phase
 
--- A tag is 256, or the place of one of so many names.
+-- The tag is 256, or the number of one of so many names.
 abbrev pub IsTag : ℕ → ℕ → Type 0
 IsTag names tag = (tag < names) ⊎ (tag ≡ 256)
 
--- An element may begin where its tag is one, and fewer elements are open than may be.
+-- An element may begin: its tag is one, and fewer than `deep` elements are open.
 abbrev pub MayBegin : ℕ → ℕ → List ℕ → ℕ → Type 0
 MayBegin names deep tags tag = IsTag names tag × (length tags < deep)
 
--- A piece fits a line.
+-- The bytes of the piece may be a part of a line.
 abbrev pub FitsLine : Piece → Type 0
 FitsLine piece = is_within_line piece.bytes.items ≡ true
 
--- It is the tag of the innermost open element.
+-- The innermost open element has this tag.
 abbrev pub IsInnermost : List ℕ → ℕ → Type 0
 IsInnermost tags tag = take 1 tags ≡ tag ∷ []
 
--- Which events may come in each phase, under so many names and with at most `deep` open elements:
--- before the first event, a root begins or nothing comes; in a head there are attributes, and then
--- its end; in a content there are texts, elements that begin, and then the Finish; at a Finish
--- there is it alone; and past the last element, End.
+-- The event may come in the phase, with so many names and at most `deep` open elements. Before the first
+-- event the root begins or End comes. In a head come pieces of attributes, and then HeadEnd. In a content
+-- come pieces of texts, elements, and then the Finish. At a Finish only the Finish comes, and after the
+-- root only End.
 abbrev pub MayCome : ℕ → ℕ → List ℕ → Phase → Event → Type 0
 MayCome names deep tags at_start (Begin tag below) = MayBegin names deep tags tag
 MayCome names deep tags at_start (Attr piece) = ⊥
@@ -72,11 +73,11 @@ MayCome names deep tags at_end (Text piece) = ⊥
 MayCome names deep tags at_end (Finish tag) = ⊥
 MayCome names deep tags at_end End = Unit {0}
 
--- An event may come at a stage.
+-- The event may come at the stage.
 abbrev pub MayFollow : ℕ → ℕ → Stage → Event → Type 0
 MayFollow names deep stage event = MayCome names deep stage.tags stage.phase event
 
--- the tags of the elements that are open behind an event
+-- the tags of the elements that are open after an event
 abbrev pub tags_after : List ℕ → Event → List ℕ
 tags_after tags (Begin tag below) = tag ∷ tags
 tags_after tags (Attr piece) = tags
@@ -85,12 +86,12 @@ tags_after tags (Text piece) = tags
 tags_after tags (Finish tag) = drop 1 tags
 tags_after tags End = tags
 
--- Outside a head a spot is in the content of the innermost open element, or past the last one.
+-- the phase outside a head: in a content where an element is open, and else at the end
 abbrev pub content_phase : List ℕ → Phase
 content_phase [] = at_end
 content_phase (tag ∷ tags) = in_content
 
--- the phase behind an event, where these elements are open before it
+-- the phase after an event, where these elements are open before it
 abbrev pub phase_after : List ℕ → Event → Phase
 phase_after tags (Begin tag below) = in_head
 phase_after tags (Attr piece) = in_head
@@ -99,7 +100,7 @@ phase_after tags (Text piece) = in_content
 phase_after tags (Finish tag) = content_phase (drop 1 tags)
 phase_after tags End = at_end
 
--- the stage behind an event
+-- the stage after an event
 abbrev pub stage_after : Stage → Event → Stage
 stage_after stage event =
     record { tags = tags_after stage.tags event; phase = phase_after stage.tags event }
@@ -108,17 +109,17 @@ stage_after stage event =
 abbrev pub first_stage : Stage
 first_stage = record { tags = []; phase = at_start }
 
--- where the innermost of these elements is passed over: at its Finish; the phase stays where none
--- is open
+-- the phase after a pass of the innermost of these elements: at its Finish, or unchanged where none is
+-- open
 abbrev pub passed_phase : List ℕ → Phase → Phase
 passed_phase [] phase = phase
 passed_phase (tag ∷ tags) phase = at_finish
 
--- the stage of a spot that passed over the innermost open element
+-- the stage after a pass of the innermost open element
 abbrev pub stage_passed : Stage → Stage
 stage_passed stage = record { tags = stage.tags; phase = passed_phase stage.tags stage.phase }
 
--- The events may come one after the other, where at first these elements are open.
+-- Each of the events may come after those before it, from these open elements and this phase on.
 abbrev pub Nest : ℕ → ℕ → List ℕ → Phase → List Event → Type 0
 Nest names deep tags phase [] = Unit {0}
 Nest names deep tags phase (event ∷ events) =

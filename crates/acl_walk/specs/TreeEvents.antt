@@ -1,5 +1,5 @@
--- The events of a document as they are read from its tree: one list, with pieces cut after each 256
--- bytes. This project's own.
+-- The events of a document as `TreeWalk` reads them from the tree. Pieces are cut after each 256 bytes.
+-- Defined by this project.
 use Rattle.std.specs.Prelude.{ℕ, Bool, true, false, is_some, max, List, [], ◌∷◌, ◌++◌, length, map, if◌then◌else◌}
 use Rattle.std.specs.List.{flat_map, range_with_len}
 use Rattle.std.specs.Option.{unwrap_or}
@@ -14,19 +14,19 @@ use Rattle.acl_walk.specs.Spelling.{tag_of}
 use Rattle.acl_walk.specs.declared.event.Event.{Event}
 use Rattle.acl_walk.specs.declared.event.Event.TheVariants.{Begin, Attr, HeadEnd, Text, Finish, End}
 
--- An element may be among items, as far as the first tells: it isn't where there is none, or one
--- text alone.
+-- An element may be among the items, judged by the first one: there are at least two items, or the only
+-- one is an element.
 abbrev pub may_hold_element : List Item → Bool
 may_hold_element [] = false
 may_hold_element (first ∷ []) = is_some (element_of first)
 may_hold_element (first ∷ second ∷ items) = true
 
--- the set that is told of an element with these items, under so many names: all numbers of names,
--- at least one, where an element may be among the items, and else none
+-- the set in the Begin of an element with these items, under so many names: the numbers of all names, and
+-- at least one number, where an element may be among the items, and else the empty set
 unfoldable pub told_below : ℕ → List Item → List ℕ
 told_below names items = if may_hold_element items then range_with_len 0 (max names 1) else []
 
--- the tag of a name, and 256 for one that has none
+-- the tag of a name, and 256 for a name that has none
 unfoldable pub tag_number : List (List ℕ) → List ℕ → ℕ
 tag_number names name = unwrap_or (tag_of names name) 256
 
@@ -38,12 +38,13 @@ attribute_events raw = map Attr (pieces raw)
 abbrev pub text_events : List ℕ → List Event
 text_events bytes = map Text (pieces bytes)
 
--- A text is its pieces, and a child has its own events.
+-- the events of an item, where those of its parts are given
 abbrev pub item_layer : Item-F (Item × List Event) (Element × List Event) → List Event
 item_layer (Item-F.Text bytes) = text_events bytes
 item_layer (Item-F.Child child) = child.1
 
--- An element is Begin, its attributes, HeadEnd, its items, and Finish.
+-- the events of an element, where those of its items are given: Begin, its attributes, HeadEnd, its items
+-- and Finish
 abbrev pub element_layer : List (List ℕ) → Element-F (Item × List Event) (Element × List Event) → List Event
 element_layer names e =
     let tag = tag_number names e.name in

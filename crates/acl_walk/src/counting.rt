@@ -1,5 +1,4 @@
-//! How many events a tree has. No count goes past the greatest number of 64 bits, so a count below
-//! it is exact.
+//! Counts the events of a tree. Counts saturate at the greatest `u64`, so each count below it is exact.
 
 ghost use Rattle.std.specs.Prelude.{◌≡◌, ◌↔◌, ◌-◌, ◌^◌, ◌<◌, ℕ, List, true, length, min};
 ghost use Rattle.acl_walk.specs.Pieces.{pieces};
@@ -7,7 +6,7 @@ ghost use Rattle.acl_walk.specs.TreeEvents.{document_events, element_events, ite
 
 use acl_model::{Doc, Element, Item};
 
-/// Whether a document has fewer than 2^64 events. The last of them is End.
+/// Whether a document has fewer than 2^64 events, End included.
 pub(crate) fn is_short(doc: &Doc) -> bool
     ensures { (names : List (List ℕ))
         → (result ≡ true) ↔ (length (document_events names doc.now) < 2 ^ 64) }
@@ -15,7 +14,7 @@ pub(crate) fn is_short(doc: &Doc) -> bool
     element_count(&doc.root) < u64::MAX
 }
 
-/// How many events an element has: Begin, HeadEnd and Finish, and those of its attributes and items.
+/// How many events an element has: Begin, HeadEnd, Finish, and those of its attributes and items.
 #[cycle(count)]
 fn element_count(element: &Element) -> u64
     ensures { (names : List (List ℕ))
@@ -31,7 +30,7 @@ fn element_count(element: &Element) -> u64
     count
 }
 
-/// The same of an item.
+/// How many events an item has.
 #[cycle(count)]
 fn item_count(item: &Item) -> u64
     ensures { (names : List (List ℕ))

@@ -1,4 +1,4 @@
-//! How the elements of a document stand in a list that spells it, and which documents can be
+//! Laws: where the elements of a document are in a list that spells it, and which documents can be
 //! walked. These functions do nothing: their contracts are the laws.
 
 ghost use Rattle.std.specs.Prelude.{◌≡◌, ℕ, ◌^◌, ◌-◌, ◌<◌, ◌≤◌, true, Some, List, length};
@@ -14,15 +14,15 @@ ghost use Rattle.acl_walk.specs.Spelling.{Spells};
 ghost use Rattle.acl_walk.specs.TreeState.{CanBeWalked, knows};
 ghost use Rattle.acl_walk.specs.declared.event.Event.{Event};
 
-/// The element at each place of a document stands in each list that spells the document.
+/// The element at each place of a document is a part of each list that spells the document.
 pub fn elements_stand_in_the_list()
     ensures { (names : List (List ℕ)) (d : Doc) (list : List Event) (place : List ℕ) (e : Element)
         → length names ≤ most_names → Spells names (Some d) list → at d place ≡ Some e
         → StandsInList names list place e }
 {}
 
-/// In a list that spells a document at most one element begins at a place of the document, and at
-/// most one finishes.
+/// In a list that spells a document, at most one element begins at each place of the document, and at most
+/// one finishes.
 pub fn elements_begin_once()
     ensures begins { (names : List (List ℕ)) (d : Doc) (list : List Event) (place : List ℕ)
         (i j : ℕ) → length names ≤ most_names → Spells names (Some d) list
@@ -32,13 +32,13 @@ pub fn elements_begin_once()
         → finishes_at list place i ≡ true → finishes_at list place j ≡ true → i ≡ j }
 {}
 
-/// Each name in a document is known under the names by which a list spells it.
+/// Where a list spells a document under names, each name in the document is known under them.
 pub fn spelled_documents_are_known()
     ensures { (names : List (List ℕ)) (d : Doc) (list : List Event)
         → Spells names (Some d) list → knows names d ≡ true }
 {}
 
-/// A document can be walked under its dictionary, where that has at most 256 names and the text has
+/// A document can be walked under its dictionary, if the dictionary has at most 256 names and the text has
 /// fewer than 2^64 - 1 bytes.
 pub fn documents_can_be_walked()
     ensures { (d : Doc) → is_document d ≡ true → length (dictionary d) ≤ most_names

@@ -1,16 +1,16 @@
-//! The events of a document as a walk gives them, in document order.
+//! The events that a walk gives, in document order.
 
 use acl_bits::{Piece, Row};
 
-/// A step through a document. Each attribute and each text comes in pieces.
+/// An event of a document. Each attribute and each text comes in pieces.
 #[derive(Clone, Debug, Drop, PartialEq, Eq)]
 pub enum Event {
     /// An element begins.
     Begin {
-        /// The place of its name among the names of the walk, from 0; 256 for a dummy.
+        /// The number of its name among the walk's names, from 0; 256 for a dummy.
         tag: u16,
-        /// The numbers of the names inside it, and maybe others. It has some number where there
-        /// is an element inside, a lone dummy too.
+        /// The numbers of the names inside it, and possibly others. The set isn't empty where the
+        /// element has a child, even a dummy.
         below: Row,
     },
     /// A piece of an attribute of the innermost open element.
@@ -21,9 +21,9 @@ pub enum Event {
     Text(Piece),
     /// The innermost open element ends.
     Finish {
-        /// As in its `Begin`.
+        /// The tag of its `Begin`.
         tag: u16,
     },
-    /// The document has ended. This event comes again and again.
+    /// The document has ended. This event comes again at each further call.
     End,
 }

@@ -1,4 +1,4 @@
-//! A walk that is lent: each call is handed on to it.
+//! A walk over a borrowed walk, to which it passes each call.
 
 ghost use Rattle.std.specs.Prelude.{◌≡◌};
 
@@ -7,7 +7,7 @@ use crate::walk::Walk;
 use acl_outside::{NoMemory, ReadFault};
 use std::alloc::Global;
 
-/// A walk over a walk that it was lent, and that it stands for what that stands for.
+/// A walk over a walk that it was lent. It stands for the same documents by the same lists.
 #[derive(Drop)]
 pub struct Lent<'a, W> {
     /// The walk that was lent.
@@ -15,7 +15,7 @@ pub struct Lent<'a, W> {
 }
 
 impl<'a, W> Lent<'a, W> {
-    /// Lends the walk, as it is.
+    /// A walk over this one, in its current state.
     pub fn new(walk: &'a mut W) -> Lent<'a, W>
         ensures walk { result.walk.now ≡ walk.old }
         ensures same_reference { result.walk.ghost_name ≡ walk.entry.ghost_name }
@@ -60,7 +60,7 @@ impl<'a, W: Walk> Walk for Lent<'a, W> {
 
     ghost count = { λ w. W.count w.walk.now };
 
-    /// The walk that was lent went, and it is still lent.
+    /// The walk that was lent went, and it is still the one that is lent.
     ghost went = { λ w o ps v. W.went w.walk.now o ps v.walk.now
         × (v.walk.ghost_name ≡ w.walk.ghost_name) };
 

@@ -1,4 +1,4 @@
-//! Walks: a document read forward as a list of events, from spots that can be copied.
+//! Walks read a document forward as a list of events, from positions that can be copied.
 #![tactic(auto)]
 
 pub use acl_bits::Piece;

@@ -1,4 +1,4 @@
-//! Which tag an element has, and what is told of those inside it.
+//! The tag of an element, and the set of tags in its Begin.
 
 ghost use Rattle.std.specs.Prelude.{◌≡◌, ◌≤◌, length, is_some};
 ghost use Rattle.acl_model.specs.Limits.{most_names};
@@ -27,21 +27,21 @@ pub(crate) fn tag_of(names: &[Name], name: &[u8]) -> u16
     }
 }
 
-/// Whether the name is that of a dummy.
+/// Whether the name is a dummy's.
 pub(crate) fn is_dummy(name: &[u8]) -> bool
     ensures { result ≡ is_dummy_name name.now }
 {
     matches!(name, [b'-'])
 }
 
-/// How many names stand before the name, if it is one of them.
+/// The number of the name among the names, from 0, if it is one of them.
 pub(crate) fn number_of(names: &[Name], name: &[u8]) -> Option<usize>
     ensures { result ≡ name_number names.now name.now }
 {
     names.iter().position(|other| other.as_slice() == name)
 }
 
-/// The set that is told of an element with these items, under so many names.
+/// The set in the Begin of an element with these items, under so many names.
 pub(crate) fn below_of(names: usize, items: &[Item]) -> Row
     requires { names ≤ most_names }
     ensures { result ≡ told_below names items.now }
@@ -53,7 +53,7 @@ pub(crate) fn below_of(names: usize, items: &[Item]) -> Row
     }
 }
 
-/// Whether an element may be among the items, as far as the first tells.
+/// Whether an element may be among the items, judged by the first one alone.
 fn may_hold_element(items: &[Item]) -> bool
     ensures { result ≡ may_hold_element items.now }
 {

@@ -1,10 +1,10 @@
-//! One step along the events of a tree, from a place in it to the next.
+//! One step along the events of a tree, from a cursor position to the next.
 
 ghost use Rattle.std.specs.Prelude.{◌≡◌, ℕ, ◌<◌, ◌≤◌, ◌++◌, List, length};
 ghost use Rattle.acl_model.specs.Limits.{most_names, most_open_elements};
-ghost use Rattle.acl_walk.specs.OpenElements.{OpenElement, tags_of, content_to_come, finish_to_come};
+ghost use Rattle.acl_walk.specs.inside.OpenElements.{OpenElement, tags_of, content_to_come, finish_to_come};
 ghost use Rattle.acl_walk.specs.TreeEvents.{attribute_events, text_events, element_events};
-ghost use Rattle.acl_walk.specs.TreeSteps.{head_to_come, to_come, IsInside, Steps};
+ghost use Rattle.acl_walk.specs.inside.TreeSteps.{head_to_come, to_come, IsInside, Steps};
 
 use crate::event::Event;
 use crate::levels::Levels;
@@ -12,24 +12,24 @@ use crate::pieces::cut_piece;
 use crate::tags::{below_of, tag_of};
 use acl_model::{Bytes, Element, Item, Name};
 
-/// A place in a tree, by what comes next there.
+/// What comes next at a position in a tree.
 #[derive(Clone, Copy, Debug)]
 pub(crate) enum Now<'a> {
-    /// The root, which hasn't begun.
+    /// The Begin of the root.
     Root(&'a Element),
-    /// The attributes that are left of the innermost open element, and the end of its head.
+    /// The remaining attributes of the innermost open element, and then the end of its head.
     Head(&'a [Bytes]),
-    /// What is left of an attribute, and the attributes behind it.
+    /// The rest of an attribute, and then the attributes after it.
     Attribute(&'a [u8], &'a [Bytes]),
-    /// What is left of the innermost open element's content; the end, where none is open.
+    /// The rest of the innermost open element's content; End, if none is open.
     Content,
-    /// What is left of a text.
+    /// The rest of a text.
     Text(&'a [u8]),
-    /// The Finish of the innermost open element, whatever is left of it.
+    /// The Finish of the innermost open element, even if more of its content is left.
     Finish,
 }
 
-/// The event at a place, and the place behind it.
+/// The event at a position, and the position after it.
 pub(crate) fn step<'a>(levels: &mut Levels<'a>, now: Now<'a>, names: &[Name]) -> (Event, Now<'a>)
     requires names { length names.now ≤ most_names }
     requires room { length levels.old ≤ most_open_elements }
@@ -65,7 +65,7 @@ fn begin<'a>(levels: &mut Levels<'a>, element: &'a Element, names: &[Name]) -> (
     )
 }
 
-/// Goes on in a head.
+/// The next event in a head.
 fn head<'a>(levels: &Levels<'a>, raws: &'a [Bytes]) -> (Event, Now<'a>)
     requires { 0 < length levels.now }
     ensures { (names : List (List ℕ)) → Steps names result.0
@@ -77,7 +77,7 @@ fn head<'a>(levels: &Levels<'a>, raws: &'a [Bytes]) -> (Event, Now<'a>)
     }
 }
 
-/// Goes on in an attribute.
+/// The next piece of an attribute.
 fn attribute<'a>(bytes: &'a [u8], raws: &'a [Bytes]) -> (Event, Now<'a>)
     ensures { (names : List (List ℕ)) (levels : List OpenElement) → 0 < length levels
         → Steps names result.0 (attribute_events bytes.now ++ head_to_come names raws.now levels)
@@ -91,7 +91,7 @@ fn attribute<'a>(bytes: &'a [u8], raws: &'a [Bytes]) -> (Event, Now<'a>)
     (Event::Attr(piece), now)
 }
 
-/// Goes on in a content.
+/// The next event in a content.
 fn content<'a>(levels: &mut Levels<'a>, names: &[Name]) -> (Event, Now<'a>)
     requires names { length names.now ≤ most_names }
     requires room { length levels.old ≤ most_open_elements }
@@ -105,7 +105,7 @@ fn content<'a>(levels: &mut Levels<'a>, names: &[Name]) -> (Event, Now<'a>)
     }
 }
 
-/// Goes on in a text.
+/// The next piece of a text.
 fn text(bytes: &[u8]) -> (Event, Now<'_>)
     ensures { (names : List (List ℕ)) (levels : List OpenElement) → 0 < length levels
         → Steps names result.0 (text_events bytes.now ++ content_to_come names levels)
@@ -119,7 +119,7 @@ fn text(bytes: &[u8]) -> (Event, Now<'_>)
     (Event::Text(piece), now)
 }
 
-/// Finishes the innermost open element, or comes to the end where none is open.
+/// Finishes the innermost open element, or gives End if none is open.
 fn finish<'a>(levels: &mut Levels<'a>) -> (Event, Now<'a>)
     ensures { (names : List (List ℕ)) → Steps names result.0 (finish_to_come names levels.old)
         (tags_of levels.old) result.1 levels.new }

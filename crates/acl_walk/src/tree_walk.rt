@@ -1,4 +1,4 @@
-//! A walk over a tree: each event is read where it stands in the tree, and none is refused.
+//! A walk over a tree. Each event is read from the tree, and no call is refused.
 
 ghost use Rattle.std.specs.Prelude.{◌≡◌, ◌^◌, ◌<◌, ◌≤◌, true, length};
 ghost use Rattle.acl_model.specs.Limits.{most_names};
@@ -17,7 +17,7 @@ use acl_outside::{NoMemory, ReadFault};
 use std::alloc::Global;
 use std::marker::Model;
 
-/// A walk over a document in memory. Its own document is its one origin, and it is always sound.
+/// A walk over a document in memory. Its only origin is this document, and it is always sound.
 #[derive(Debug, Drop)]
 pub struct TreeWalk<'a> {
     doc: &'a Doc,
@@ -44,7 +44,7 @@ impl<'a> Model for TreeWalk<'a> {
 }
 
 impl<'a> TreeWalk<'a> {
-    /// A walk over the document, under names of which a tag is the place. It takes no memory.
+    /// A walk over the document. A tag is the number of a name among `names`. It takes no memory.
     pub fn new(doc: &'a Doc, names: &'a [Name]) -> TreeWalk<'a>
         requires document { is_view_document doc.now ≡ true }
         requires few { length names.now ≤ most_names }
@@ -67,7 +67,7 @@ impl<'a> Walk for TreeWalk<'a> {
     ghost use Rattle.std.specs.Prelude.{◌≡◌, Some, None, true, length};
     ghost use Rattle.acl_walk.specs.TreeEvents.{document_events};
     ghost use Rattle.acl_walk.specs.TreeState.{Tree, TreeState};
-    ghost use Rattle.acl_walk.specs.TreeSpots.{IsSpotOf, spot_to_come, spot_place, spot_stage, tree_depth, tree_events};
+    ghost use Rattle.acl_walk.specs.inside.TreeSpots.{IsSpotOf, spot_to_come, spot_place, spot_stage, tree_depth, tree_events};
 
     type Spot = TreeSpot<'a>;
 
@@ -135,7 +135,7 @@ impl<'a> Walk for TreeWalk<'a> {
         self.taken
     }
 
-    ghost use Rattle.acl_walk.specs.TreeWalkLaws.{tree_listed, tree_within, tree_fresh, tree_few, tree_few_open, tree_shallow, tree_named, tree_going};
+    ghost use Rattle.acl_walk.specs.inside.TreeWalkLaws.{tree_listed, tree_within, tree_fresh, tree_few, tree_few_open, tree_shallow, tree_named, tree_going};
 
     ghost listed = { tree_listed };
 

@@ -1,4 +1,4 @@
-//! Whether a document can be walked under names: what `TreeWalk::new` asks for.
+//! Checks whether a document can be walked under names, as `TreeWalk::new` requires.
 
 ghost use Rattle.std.specs.Prelude.{◌≡◌, ◌↔◌, true};
 ghost use Rattle.std.specs.List.{list_all};
@@ -10,8 +10,8 @@ use crate::tags::{is_dummy, number_of};
 use acl_model::limits::MOST_NAMES;
 use acl_model::{Doc, Element, Item, Name, is_view_document};
 
-/// Whether a document can be walked under the names. The tree is looked through once for its form,
-/// once for its names, and once for the number of its events.
+/// Whether a document can be walked under the names. The tree is read once for its form, once for its
+/// names, and once for the number of its events.
 pub fn can_be_walked(doc: &Doc, names: &[Name]) -> bool
     ensures { (result ≡ true) ↔ CanBeWalked (record { doc = doc.now; names = names.now }) }
 {
@@ -41,7 +41,7 @@ fn knows(names: &[Name], doc: &Doc) -> bool
     knows_element(names, &doc.root)
 }
 
-/// Whether that of each element in an element is, its own first.
+/// Whether the name of the element, and of each element inside it, is known.
 #[cycle(known)]
 fn knows_element(names: &[Name], element: &Element) -> bool
     ensures { result ≡ list_all (is_known names.now) (start_names element.now) }
@@ -57,7 +57,7 @@ fn knows_element(names: &[Name], element: &Element) -> bool
     true
 }
 
-/// Whether that of each element in an item is.
+/// Whether the name of each element in an item is known.
 #[cycle(known)]
 #[tactic(auto, using(acl_model::proofs::DictionaryLaws::start_equations))]
 fn knows_item(names: &[Name], item: &Item) -> bool
@@ -69,7 +69,7 @@ fn knows_item(names: &[Name], item: &Item) -> bool
     }
 }
 
-/// Whether the name is that of a dummy, or one of the names.
+/// Whether the name is a dummy's or one of the names.
 fn is_known(names: &[Name], name: &[u8]) -> bool
     ensures { result ≡ is_known names.now name.now }
 {

@@ -1,12 +1,13 @@
--- Words that begin a command line go on to one, and others go on to none.
+-- Arguments that begin a command line can be completed to a valid one, and others can't. A lemma `X_goes_on` gives the
+-- arguments that complete those of the command X; `X_refuses` says that none do.
 use Rattle.std.proofs.Common.{◌≡◌, ℕ, nat_le, ◌↔◌, Bool, true, false, codes, Option, Some, None, is_some, List, [], ◌∷◌, ◌++◌, length, refl, ap, if◌then◌else◌, arith}
 use Rattle.std.specs.Option.{option_map}
 use borrow.Author.Tests.{leb-true}
 use Rattle.acl_words.specs.Command.{Command, the_view, an_explanation, preview, encode, seal, view, sample}
 use Rattle.acl_words.specs.Options.{is_word, reading_of, options_of}
-use Rattle.acl_words.specs.Words.{shown_by, preview_with, preview_of, encode_of, seal_of, viewed_by, view_with, view_of, explain_of, size_of, sample_of, words_of}
-use Rattle.acl_words.specs.Fronts.{IsBegun}
-use Rattle.acl_words.specs.Begins.{begins_preview, begins_view, begins_sample, begins_line}
+use Rattle.acl_words.specs.CommandLines.{shown_by, preview_with, preview_of, encode_of, seal_of, viewed_by, view_with, view_of, explain_of, size_of, sample_of, words_of}
+use Rattle.acl_words.specs.Prefixes.{IsBegun}
+use Rattle.acl_words.specs.inside.Begins.{begins_preview, begins_view, begins_sample, begins_line}
 use Rattle.acl_words.proofs.OptionLaws.{GoesOn, IsKept, Refuses, begins_options-refuses, begins_options-goes_on}
 
 -- ---- each command
@@ -48,7 +49,7 @@ sample_goes_on (size ∷ []) h = by_size (size_of size) refl h
     by_size (Some n) is some = record { rest = []; command = sample n; line = ap (option_map sample) is }
 sample_goes_on (size ∷ word ∷ words) h = absurd (cc)
 
--- What `preview` refuses it refuses with any further option.
+-- Options that `preview` doesn't take are not taken with a further option either.
 preview_kept : IsKept (Refuses preview_with)
 preview_kept = record { query = λ options value. with_value options.query options.explain value; explain = λ options. with_flag options.query options.explain }
   where
@@ -63,7 +64,7 @@ preview_kept = record { query = λ options value. with_value options.query optio
     with_flag None false h = absurd (cc)
     with_flag (Some other) x h = refl
 
--- So does `view`.
+-- The same is true of `view`.
 view_kept : IsKept (Refuses view_with)
 view_kept = record { query = λ options value. with_value options.explain options.query value; explain = λ options h. refl }
   where
@@ -109,7 +110,7 @@ sample_refuses (size ∷ word ∷ words) rest h = refl
 
 -- ---- all commands
 
--- the command and the test by the tests of the first word
+-- The command, and whether one begins, as `if` chains over the tests of the first argument. The lemmas split on these tests.
 abbrev by_names : {A : Type 0} → Bool → Bool → Bool → Bool → Bool → Bool → A → A → A → A → A → A → A → A
 by_names for_preview for_encode for_seal for_view for_explain for_sample a b c d e f g =
     if for_preview then a else if for_encode then b else if for_seal then c else if for_view then d else if for_explain then e else if for_sample then f else g
@@ -146,7 +147,7 @@ refuses false false false false true f words rest h = explain_refuses words rest
 refuses false false false false false true words rest h = sample_refuses words rest h
 refuses false false false false false false words rest h = refl
 
--- Where the test says so, some command line begins with the words.
+-- Where `begins_line` is true, some command line begins with the arguments.
 IsBegun-begins : (words : List (List ℕ)) → begins_line words ≡ true → IsBegun words
 IsBegun-begins [] h = record { rest = codes "encode" ∷ [] ∷ []; command = encode; line = refl }
 IsBegun-begins (name ∷ words) h =
@@ -154,7 +155,7 @@ IsBegun-begins (name ∷ words) h =
     (is_word name (codes "explain")) (is_word name (codes "sample")) words h in
     record { rest = on.rest; command = on.command; line = on.line }
 
--- Else none does.
+-- Where it is false, none does.
 words_of-refused : (words rest : List (List ℕ)) → begins_line words ≡ false → words_of (words ++ rest) ≡ None
 words_of-refused [] rest h = absurd (cc)
 words_of-refused (name ∷ words) rest h =
@@ -168,6 +169,6 @@ begins_line-IsBegun words begun = by_test (begins_line words) refl
     by_test true is = refl
     by_test false is = let none = words_of-refused words begun.rest is in let some = begun.line in absurd (cc)
 
--- The test decides whether some command line begins with the words.
+-- `begins_line` is true exactly where some command line begins with the arguments.
 pub IsBegun-decided : (words : List (List ℕ)) → (begins_line words ≡ true) ↔ IsBegun words
 IsBegun-decided words = (IsBegun-begins words, begins_line-IsBegun words)

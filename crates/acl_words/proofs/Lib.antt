@@ -1,4 +1,4 @@
 pub mod Sizes
 pub mod OptionLaws
 pub mod Goings
-pub mod FrontLaws
+pub mod PrefixLaws

@@ -1,14 +1,14 @@
--- Words that begin options of a command go on to some, and others go on to none.
+-- Arguments that begin options of a command can be completed to such options, and others can't.
 use Rattle.std.proofs.Common.{◌≡◌, ℕ, Bool, true, false, ◌&&◌, codes, Option, Some, None, is_some, is_none, List, [], ◌∷◌, ◌++◌, refl, ap, ◌∙◌, if◌then◌else◌}
 use Rattle.std.specs.Option.{option_map, option_and_then}
-use Rattle.acl_model.specs.Lists.{text_behind}
+use Rattle.acl_model.specs.Lists.{text_after}
 use Rattle.acl_words.specs.Command.{Command}
 use Rattle.acl_words.specs.Options.{Options, Reading, Awaited, an_option, a_query, no_options, is_word, is_value, with_query, with_explain, with_option, with_word, options_at_end, options_begun, reading_from, reading_of, options_of, begun_options_of}
-use Rattle.acl_words.specs.Begins.{begins_options}
+use Rattle.acl_words.specs.inside.Begins.{begins_options}
 
--- ---- what is kept
+-- ---- properties that further options keep
 
--- Options that are read have this property.
+-- If options are read, they have this property.
 abbrev pub Reads : (Options → Type 0) → Option Reading → Type 0
 Reads P None = Unit {0}
 Reads P (Some reading) = P reading.options
@@ -18,7 +18,7 @@ pub record IsKept (P : Options → Type 0) : Type 0 where
   pub query : (options : Options) (value : List ℕ) → P options → P (record options { query = Some value })
   pub explain : (options : Options) → P options → P (record options { explain = true })
 
--- The options after a word, by the tests of its rows.
+-- `with_option`, over the results of the tests that it makes
 abbrev pub by_rows : Bool → Bool → Option (List ℕ) → Options → Option Reading
 by_rows explain query value options =
     if explain then with_explain options
@@ -49,10 +49,10 @@ rows_keep P kept options has false false (Some value) = query_keeps P kept optio
 word_keeps : (P : Options → Type 0) → IsKept P → (awaited : Awaited) (options : Options) (word : List ℕ) → P options → Reads P (with_word awaited options word)
 unfolding with_option
 word_keeps P kept an_option options word has =
-    rows_keep P kept options has (is_word word (codes "--explain")) (is_word word (codes "--query")) (text_behind (codes "--query=") word)
+    rows_keep P kept options has (is_word word (codes "--explain")) (is_word word (codes "--query")) (text_after (codes "--query=") word)
 word_keeps P kept a_query options word has = query_keeps P kept options word has
 
--- So do all words.
+-- Reading arguments keeps such a property.
 reading_from-keeps : (P : Options → Type 0) → IsKept P → (words : List (List ℕ)) (reading : Option Reading) → Reads P reading → Reads P (reading_from reading words)
 reading_from-keeps P kept words None has = tt
 reading_from-keeps P kept [] (Some reading) has = has
@@ -66,7 +66,7 @@ reading_from-append (Some reading) (word ∷ words) more = reading_from-append (
 
 -- ---- a command that is made of options
 
--- what is read at the end of the words, and what is begun
+-- The options of a reading: at the end of the arguments, and so far.
 abbrev ended : Option Reading → Option Options
 ended reading = option_and_then (λ r. options_at_end r.awaited r.options) reading
 
@@ -81,7 +81,7 @@ none_made : {A : Type 0} (made : Option A) → is_some made ≡ false → made �
 none_made None h = refl
 none_made (Some a) h = absurd (cc)
 
--- Options of which no command is made end in none.
+-- Where no command is made of the options so far, none is made at the end.
 refused_end : (make : Options → Option Command) (reading : Option Reading) → Reads (Refuses make) reading → option_and_then make (ended reading) ≡ None
 refused_end make None refuses = refl
 refused_end make (Some reading) refuses = by_awaited reading.awaited
@@ -118,7 +118,7 @@ refused_from make kept (Some reading) rest h = by_awaited reading.awaited rest h
         refused_end make (reading_from (with_query reading.options value) rest)
         (reading_from-keeps (Refuses make) kept rest (with_query reading.options value) (other_value make kept reading.options value h))
 
--- Words that no options of a command begin with go on to none.
+-- Arguments that don't begin options of a command can't be completed to such options.
 pub begins_options-refuses : (make : Options → Option Command) → IsKept (Refuses make) → (words rest : List (List ℕ)) → begins_options make words ≡ false
     → option_and_then make (options_of (words ++ rest)) ≡ None
 unfolding options_of begun_options_of reading_of
@@ -126,13 +126,13 @@ begins_options-refuses make kept words rest h =
     ap (λ reading. option_and_then make (ended reading)) (reading_from-append (Some (record { options = no_options; awaited = an_option })) words rest)
     ∙ refused_from make kept (reading_of words) rest h
 
--- The words go on to some that give a command.
+-- Further arguments complete these to a command.
 pub record GoesOn (command_of : List (List ℕ) → Option Command) (words : List (List ℕ)) : Type 0 where
   pub rest : List (List ℕ)
   pub command : Command
   pub line : command_of (words ++ rest) ≡ Some command
 
--- The words with which a reading goes on to what it begins.
+-- The arguments that complete a reading: after them the options are `begun reading`.
 record Completes (reading : Option Reading) : Type 0 where
   rest : List (List ℕ)
   same : ended (reading_from reading rest) ≡ begun reading
@@ -151,7 +151,7 @@ completed (Some reading) = by_awaited reading.awaited
     by_awaited an_option = record { rest = []; same = refl }
     by_awaited a_query = record { rest = codes "/" ∷ []; same = by_test reading.options (is_none reading.options.query && is_value (codes "/")) }
 
--- Words that options of a command begin with go on to some.
+-- Arguments that begin options of a command can be completed to such options.
 pub begins_options-goes_on : (make : Options → Option Command) (words : List (List ℕ)) → begins_options make words ≡ true
     → GoesOn (λ words. option_and_then make (options_of words)) words
 unfolding options_of begun_options_of reading_of

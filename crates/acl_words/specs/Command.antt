@@ -1,16 +1,16 @@
--- What a command line can ask for. A later command is a further variant, with what its words say. This project's own.
+-- The commands that a command line can ask for. A new command is one more variant. Defined by this project.
 use Rattle.std.specs.Prelude.{ℕ, List}
 
 -- what is shown of a document
 pub data Shown : Type 0 where
   the_view : Shown  -- the authorised view
-  an_answer : List ℕ → Shown  -- the answer of the query whose bytes these are
-  an_explanation : Shown  -- where the signs come from
+  an_answer : List ℕ → Shown  -- the answer to the query with these bytes
+  an_explanation : Shown  -- which rule decides at each element that a rule selects
 
--- a command
+-- a command, with its options
 pub data Command : Type 0 where
-  preview : Shown → Command  -- this of the input's document, under the rules of the keys
-  encode : Command  -- the file of the input's document, under the keys
-  seal : Command  -- the input's body of a licence, sealed with the keys
-  view : Shown → Command  -- this of the document whose file the store has, under the keys and the input's sealed licence
-  sample : ℕ → Command  -- the sample document with so many folders
+  preview : Shown → Command  -- shows a document in this form, under the rules of a licence body
+  encode : Command  -- encrypts a document under the keys
+  seal : Command  -- seals a licence body with the keys
+  view : Shown → Command  -- shows the stored document in this form, under the keys and a sealed licence
+  sample : ℕ → Command  -- writes the sample document with this many folders

@@ -1,7 +1,6 @@
 pub mod Command
 pub mod Options
-pub mod Request
-pub mod Words
-pub mod Fronts
-pub mod Begins
+pub mod CommandLines
+pub mod Prefixes
 pub mod Files
+pub mod inside

@@ -1,14 +1,14 @@
-//! The files that a command line names, and what it takes from standard input.
+//! The files that a command line names, and what its command reads from standard input.
 
 ghost use Rattle.std.specs.Prelude.{◌≡◌, map, string_bytes};
 ghost use Rattle.std.specs.Option.{option_map, option_copied};
 ghost use Rattle.acl_words.specs.Files.{first_operand, second_operand, files_by, files_of};
-ghost use Rattle.acl_words.specs.Request.{command_of, meant_files};
+ghost use Rattle.acl_words.specs.inside.Request.{command_of, meant_files};
 
 use crate::request::Request;
 use crate::words::read_words;
 
-/// What a command takes from standard input.
+/// What a command reads from standard input.
 #[derive(Clone, Copy)]
 pub enum Input {
     /// The lines of a document.
@@ -17,10 +17,11 @@ pub enum Input {
     Body,
     /// A sealed licence.
     Licence,
+    /// Standard input is not read.
     Nothing,
 }
 
-/// The files that a command line names, each as it is written there.
+/// The names of a command's files, as they are on the command line.
 #[derive(Clone, Copy)]
 pub struct Files<'a> {
     /// The file of a licence body.
@@ -29,11 +30,11 @@ pub struct Files<'a> {
     pub keys: Option<&'a str>,
     /// The file of an encoded document.
     pub store: Option<&'a str>,
-    /// What is taken from standard input beside them.
+    /// What is read from standard input.
     pub input: Input,
 }
 
-/// The word behind the command's name.
+/// The argument after the command's name.
 fn first_operand(words: &[String]) -> Option<&str>
     ensures { option_copied result ≡ first_operand (map string_bytes words.now) }
 {
@@ -43,7 +44,7 @@ fn first_operand(words: &[String]) -> Option<&str>
     }
 }
 
-/// The word behind that.
+/// The argument after the first operand.
 fn second_operand(words: &[String]) -> Option<&str>
     ensures { option_copied result ≡ second_operand (map string_bytes words.now) }
 {
@@ -53,9 +54,10 @@ fn second_operand(words: &[String]) -> Option<&str>
     }
 }
 
-/// The files that this request names among its words.
+/// The files that the arguments of this request name.
 fn files_by<'a>(request: Request<'_>, words: &'a [String]) -> Files<'a>
-    ensures { meant_files result ≡ files_by (command_of request.entry) (map string_bytes words.now) }
+    ensures { meant_files result
+        ≡ files_by (command_of request.entry) (map string_bytes words.now) }
 {
     match request {
         Request::Preview(_) => Files {
@@ -91,7 +93,7 @@ fn files_by<'a>(request: Request<'_>, words: &'a [String]) -> Files<'a>
     }
 }
 
-/// The files that a command line names. `None` where the words are no command line.
+/// The files that these arguments name. `None` where they are no valid command line.
 pub fn named_files(words: &[String]) -> Option<Files<'_>>
     ensures { option_map meant_files result ≡ files_of (map string_bytes words.now) }
 {

@@ -1,32 +1,36 @@
-//! The options of a command line: each at most once, in any order.
+//! Reads the options of a command line: each at most once, in any order.
 
 ghost use Rattle.std.specs.Prelude.{◌≡◌, map, string_bytes};
 ghost use Rattle.std.specs.Option.{option_map};
 ghost use Rattle.acl_words.specs.Options.{is_value, with_query, with_explain, with_option, with_word};
 ghost use Rattle.acl_words.specs.Options.{options_at_end, options_begun, reading_of, options_of, begun_options_of};
-ghost use Rattle.acl_words.specs.Request.{meant_options, meant_reading};
+ghost use Rattle.acl_words.specs.inside.Request.{meant_options, meant_reading};
 
-/// The options that are given.
+/// The options of a command line.
 #[derive(Clone, Copy)]
 pub struct Options<'a> {
+    /// The bytes of P, where `--query P` is given.
     pub query: Option<&'a [u8]>,
+    /// Whether `--explain` is given.
     pub explain: bool,
 }
 
-/// What the next word is.
+/// What the next argument is to be.
 #[derive(Clone, Copy)]
 enum Awaited {
     AnOption,
+    /// The value of `--query`.
     Query,
 }
 
-/// What was read of the options so far.
+/// The options so far, and what the next argument is to be.
 #[derive(Clone, Copy)]
 struct Reading<'a> {
     options: Options<'a>,
     awaited: Awaited,
 }
 
+/// Whether an option can have this value: it is not empty and doesn't begin with `-`.
 fn is_a_value(word: &[u8]) -> bool
     ensures { result ≡ is_value word.now }
 {
@@ -36,6 +40,7 @@ fn is_a_value(word: &[u8]) -> bool
     }
 }
 
+/// What is read after this value of `--query`. `None` where the option was given before, or the value is not valid.
 fn take_query<'a>(options: Options<'a>, value: &'a [u8]) -> Option<Reading<'a>>
     ensures { option_map meant_reading result ≡ with_query (meant_options options.entry) value.now }
 {
@@ -52,6 +57,7 @@ fn take_query<'a>(options: Options<'a>, value: &'a [u8]) -> Option<Reading<'a>>
     }
 }
 
+/// What is read after `--explain`. `None` where it was given before.
 fn take_explain(options: Options<'_>) -> Option<Reading<'_>>
     ensures { option_map meant_reading result ≡ with_explain (meant_options options.entry) }
 {
@@ -68,6 +74,7 @@ fn take_explain(options: Options<'_>) -> Option<Reading<'_>>
     }
 }
 
+/// What is read after an argument that begins an option.
 #[tactic(auto, unfolding(crate::specs::Options::with_option))]
 fn take_option<'a>(options: Options<'a>, word: &'a str) -> Option<Reading<'a>>
     ensures { option_map meant_reading result ≡ with_option (meant_options options.entry) word.now }
@@ -85,9 +92,11 @@ fn take_option<'a>(options: Options<'a>, word: &'a str) -> Option<Reading<'a>>
     }
 }
 
+/// What is read after one more argument, an option or a value.
 fn take_word<'a>(reading: Reading<'a>, word: &'a str) -> Option<Reading<'a>>
     ensures { option_map meant_reading result
-        ≡ with_word (meant_reading reading.entry).awaited (meant_reading reading.entry).options word.now }
+        ≡ with_word (meant_reading reading.entry).awaited
+        (meant_reading reading.entry).options word.now }
 {
     match reading.awaited {
         Awaited::AnOption => take_option(reading.options, word),
@@ -95,9 +104,11 @@ fn take_word<'a>(reading: Reading<'a>, word: &'a str) -> Option<Reading<'a>>
     }
 }
 
+/// The options at the end of the arguments. `None` where a value is missing.
 fn end_of_options(reading: Reading<'_>) -> Option<Options<'_>>
     ensures { option_map meant_options result
-        ≡ options_at_end (meant_reading reading.entry).awaited (meant_reading reading.entry).options }
+        ≡ options_at_end (meant_reading reading.entry).awaited
+        (meant_reading reading.entry).options }
 {
     match reading.awaited {
         Awaited::AnOption => Some(reading.options),
@@ -105,10 +116,11 @@ fn end_of_options(reading: Reading<'_>) -> Option<Options<'_>>
     }
 }
 
-/// The options that are begun, where any value will do for one that is still awaited.
+/// The options so far. Where the value of `--query` is missing, `/` takes its place.
 fn begun_by(reading: Reading<'_>) -> Option<Options<'_>>
     ensures { option_map meant_options result
-        ≡ options_begun (meant_reading reading.entry).awaited (meant_reading reading.entry).options }
+        ≡ options_begun (meant_reading reading.entry).awaited
+        (meant_reading reading.entry).options }
 {
     match reading.awaited {
         Awaited::AnOption => Some(reading.options),
@@ -119,7 +131,7 @@ fn begun_by(reading: Reading<'_>) -> Option<Options<'_>>
     }
 }
 
-/// What is read after these words, unless they are no options.
+/// What is read of these arguments. `None` where they don't begin valid options.
 #[tactic(auto, unfolding(crate::specs::Options::reading_of))]
 fn read_each(words: &[String]) -> Option<Reading<'_>>
     ensures { option_map meant_reading result ≡ reading_of (map string_bytes words.now) }
@@ -137,7 +149,7 @@ fn read_each(words: &[String]) -> Option<Reading<'_>>
     Some(reading)
 }
 
-/// The options that these words give. No other words are options.
+/// The options that these arguments give. `None` where they are not valid options.
 #[tactic(auto, unfolding(crate::specs::Options::options_of))]
 pub fn read_options(words: &[String]) -> Option<Options<'_>>
     ensures { option_map meant_options result ≡ options_of (map string_bytes words.now) }
@@ -145,7 +157,8 @@ pub fn read_options(words: &[String]) -> Option<Options<'_>>
     end_of_options(read_each(words)?)
 }
 
-/// The options that these words give or begin, unless no options begin so.
+/// The options that these arguments give, where the value of the last may still be missing. `None` where they don't
+/// begin valid options.
 #[tactic(auto, unfolding(crate::specs::Options::begun_options_of))]
 pub fn read_begun_options(words: &[String]) -> Option<Options<'_>>
     ensures { option_map meant_options result ≡ begun_options_of (map string_bytes words.now) }

@@ -5,25 +5,25 @@
 pub enum Shown<'a> {
     /// The authorised view.
     View,
-    /// The answer of the query whose bytes these are.
+    /// The answer to the query with these bytes.
     Answer(&'a [u8]),
-    /// Where the signs of its elements come from.
+    /// Which rule decides at each element that a rule selects.
     Explanation,
 }
 
-/// A command, with what its words say.
+/// A command, with its options.
 #[derive(Clone, Copy)]
 pub enum Request<'a> {
-    /// `preview RULES [--query P] [--explain]`: what is to be shown of the document on the input, under the rules of the
-    /// file RULES.
+    /// `preview RULES [--query P] [--explain]`: shows the document on standard input in this form, under the rules of
+    /// the file RULES.
     Preview(Shown<'a>),
-    /// `encode KEYS`: the file of the document on the input, under the keys of the file KEYS.
+    /// `encode KEYS`: encrypts the document on standard input under the keys of the file KEYS.
     Encode,
-    /// `seal KEYS`: the licence body on the input, sealed with the keys of the file KEYS.
+    /// `seal KEYS`: seals the licence body on standard input with the keys of the file KEYS.
     Seal,
-    /// `view KEYS STORE [--query P]` and `explain KEYS STORE`: what is to be shown of the document whose file is in the file
-    /// STORE, under the keys of the file KEYS and the sealed licence on the input.
+    /// `view KEYS STORE [--query P]` and `explain KEYS STORE`: shows the encrypted document in the file STORE in this
+    /// form, under the keys of the file KEYS and the sealed licence on standard input.
     View(Shown<'a>),
-    /// `sample N`: the sample document with so many folders.
+    /// `sample N`: writes the sample document with N folders.
     Sample(u32),
 }

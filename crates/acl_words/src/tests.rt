@@ -1,4 +1,4 @@
-//! Words that are command lines, and where others go wrong. The words of a line are written with `;` between them.
+//! Valid command lines, and the first wrong argument of others. The arguments of a line have `;` between them.
 
 use super::*;
 use std::process::Abort;
@@ -32,7 +32,7 @@ sample;20000";
     }
 }
 
-/// The words stand behind the place that is wanted. Which words are a command line is told in docs/FORMATS.md.
+/// The index of the first wrong argument, and the arguments. docs/FORMATS.md describes the valid command lines.
 #[test]
 fn the_first_word_that_cannot_stand_there_is_refused(rt: HostRuntime) {
     for (place, text) in [
@@ -69,22 +69,33 @@ fn the_first_word_that_cannot_stand_there_is_refused(rt: HostRuntime) {
     assert_eq!(rt; refused_word(&[]), Some(0));
 }
 
-/// The files of rules, of keys and of a store, where an empty word stands for none.
+/// What a command reads from standard input, as a word.
+fn name_of(input: Input) -> &'static str {
+    match input {
+        Input::Document => "document",
+        Input::Body => "body",
+        Input::Licence => "licence",
+        Input::Nothing => "nothing",
+    }
+}
+
+/// The files of rules, keys and store, empty where there is none, and what is read from standard input.
 #[test]
 fn a_command_line_names_its_files_and_other_words_name_none(rt: HostRuntime) {
-    for (text, rules, keys, store) in [
-        ("preview;r;--explain", "r", "", ""),
-        ("encode;k", "", "k", ""),
-        ("seal;k", "", "k", ""),
-        ("view;k;s;--query;/a", "", "k", "s"),
-        ("explain;k;s", "", "k", "s"),
-        ("sample;1", "", "", ""),
+    for (text, rules, keys, store, input) in [
+        ("preview;r;--explain", "r", "", "", "document"),
+        ("encode;k", "", "k", "", "document"),
+        ("seal;k", "", "k", "", "body"),
+        ("view;k;s;--query;/a", "", "k", "s", "licence"),
+        ("explain;k;s", "", "k", "s", "licence"),
+        ("sample;1", "", "", "", "nothing"),
     ] {
         let words = words(&rt, text);
         let files = named_files(words.as_slice()).expect(&rt, "files");
         assert_eq!(rt; files.rules.unwrap_or(""), rules, "{text}");
         assert_eq!(rt; files.keys.unwrap_or(""), keys, "{text}");
         assert_eq!(rt; files.store.unwrap_or(""), store, "{text}");
+        assert_eq!(rt; name_of(files.input), input, "{text}");
     }
     for text in [
         "",

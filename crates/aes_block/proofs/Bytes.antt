@@ -1,8 +1,8 @@
--- A fact that a test shows of every byte, by computing the test at each of them.
+-- A statement about all bytes, proved by computing a test for each byte.
 use Rattle.std.proofs.Common.{◌≡◌, ℕ, zero, suc, ◌-◌, ◌<◌, Bool, true, ◌&&◌, arith, subst, inl, inr, eq-zero-or-pos, eqb, eqb-true, ltb, ltb-true}
 use Rattle.std.proofs.lemmas.Bool.{and_parts}
 
--- the test holds of each number below n
+-- the test is true of each number below n
 abbrev pub passes_below : ℕ → (ℕ → Bool) → Bool
 passes_below zero p = true
 passes_below (suc n) p = p n && passes_below n p
@@ -16,10 +16,10 @@ passed (suc n) p all x lt =
       | inr g ↦ passed n p parts.1 x (omega arith)
     ]
 
--- two functions that agree on each number below n by a test
+-- two functions are equal below n where this is computed for each number
 pub same_below : (n : ℕ) (f g : ℕ → ℕ) → passes_below n (λ x. eqb (f x) (g x)) ≡ true → (x : ℕ) → x < n → f x ≡ g x
 same_below n f g all x lt = eqb-true (f x) (g x) (passed n (λ y. eqb (f y) (g y)) all x lt)
 
--- a function that keeps below a bound on each number below n by a test
+-- the values of a function for the numbers below n are below a bound where this is computed for each number
 pub bounded_below : (n bound : ℕ) (f : ℕ → ℕ) → passes_below n (λ x. ltb (f x) bound) ≡ true → (x : ℕ) → x < n → f x < bound
 bounded_below n bound f all x lt = ltb-true (f x) bound (passed n (λ y. ltb (f y) bound) all x lt)

@@ -1,5 +1,4 @@
--- A column, multiplied by the matrix of one of the two fixed words and then of the other, is the column
--- again.
+-- A column that is multiplied by the matrix of one of the two fixed words, and then by that of the other, is unchanged.
 use Rattle.std.proofs.Common.{◌≡◌, ℕ, ◌+◌, ◌-◌, ◌<◌, List, true, refl, sym, ap, ◌∙◌, bit_xor, eqb}
 use lib.Bits.{xor_zero_r}
 use Rattle.aes_block.specs.Field.{product, remainder, mul}
@@ -7,7 +6,7 @@ use Rattle.aes_block.specs.Aes.{xor4, word_entry, word_product_row, mix_word, in
 use Rattle.aes_block.proofs.Bytes.{passes_below, same_below}
 use Rattle.aes_block.proofs.FieldLaws.{mul-xor, xor_swap}
 
--- what byte j of a column gives to row r, where the column is multiplied by a and then by o
+-- what byte j of a column contributes to row r, where the column is multiplied by a and then by o
 abbrev through : List ℕ → List ℕ → ℕ → ℕ → ℕ → ℕ
 through o a r j x =
     xor4 (mul (word_entry o r) (mul (word_entry a (4 - j)) x))
@@ -150,7 +149,7 @@ xor4-xor4 a b c d e f g h =
     ∙ ap (λ (x : ℕ). bit_xor x (bit_xor d h))
     (xor_swap (bit_xor a b) c (bit_xor e f) g ∙ ap (λ (x : ℕ). bit_xor x (bit_xor c g)) (xor_swap a b e f))
 
--- four sums of four, the other way round
+-- the sum of the rows of a four-by-four table is the sum of its columns
 xor4_turned : (a0 a1 a2 a3 b0 b1 b2 b3 c0 c1 c2 c3 d0 d1 d2 d3 : ℕ)
     → xor4 (xor4 a0 a1 a2 a3) (xor4 b0 b1 b2 b3) (xor4 c0 c1 c2 c3) (xor4 d0 d1 d2 d3)
     ≡ xor4 (xor4 a0 b0 c0 d0) (xor4 a1 b1 c1 d1) (xor4 a2 b2 c2 d2) (xor4 a3 b3 c3 d3)
@@ -166,7 +165,7 @@ mul-xor4 k a b c d =
     ∙ ap (λ (x : ℕ). bit_xor x (mul k d)) (mul-xor k (bit_xor a b) c
     ∙ ap (λ (x : ℕ). bit_xor x (mul k c)) (mul-xor k a b))
 
--- one row of the product of a sum is the sum of the rows
+-- a row of the product with a sum is the sum of the rows of the products
 pub word_product_row-xor : (a : List ℕ) (r b0 b1 b2 b3 k0 k1 k2 k3 : ℕ)
     → word_product_row a r (bit_xor b0 k0) (bit_xor b1 k1) (bit_xor b2 k2) (bit_xor b3 k3)
     ≡ bit_xor (word_product_row a r b0 b1 b2 b3) (word_product_row a r k0 k1 k2 k3)
@@ -178,7 +177,7 @@ word_product_row-xor a r b0 b1 b2 b3 k0 k1 k2 k3 =
     (mul (word_entry a r) k0) (mul (word_entry a (r + 3)) k1)
     (mul (word_entry a (r + 2)) k2) (mul (word_entry a (r + 1)) k3))
 
--- a row of a product of four rows
+-- a row of the product with a product
 rows_product : (o0 o1 o2 o3 a0 a1 a2 a3 b0 b1 b2 b3 c0 c1 c2 c3 d0 d1 d2 d3 : ℕ)
     → xor4 (mul o0 (xor4 a0 a1 a2 a3)) (mul o1 (xor4 b0 b1 b2 b3)) (mul o2 (xor4 c0 c1 c2 c3)) (mul o3 (xor4 d0 d1 d2 d3))
     ≡ xor4 (xor4 (mul o0 a0) (mul o1 b0) (mul o2 c0) (mul o3 d0)) (xor4 (mul o0 a1) (mul o1 b1) (mul o2 c1) (mul o3 d1))

@@ -1,5 +1,4 @@
--- Multiplication in the field distributes over the sum, and what the definition says of its inverse
--- and of the coefficients that the columns are multiplied by.
+-- Multiplication in the field distributes over addition, and `field_inverse` of a byte is its inverse.
 use Rattle.std.proofs.Common.{◌≡◌, ℕ, zero, suc, ◌+◌, ◌*◌, ◌/◌, ◌%◌, ◌^◌, ◌<◌, true, refl, sym, ap, ◌∙◌, subst, arith, bit_xor, eqb}
 use Rattle.std.proofs.lemmas.Nat.{xor_mod, xor_shr}
 use lib.Bits.{xor_assoc, xor_comm, xor_self, xor_zero_r}
@@ -39,7 +38,7 @@ product-xor a p q (suc n) =
     (λ i. bit_xor (times_coefficient (a * 2 ^ n) p q n i) (product-xor a p q n i))
     ∙ xor_swap (a * 2 ^ n * coefficient p n) (a * 2 ^ n * coefficient q n) (product a p n) (product a q n)
 
--- one step of the long division
+-- one step of polynomial division
 abbrev reduced : ℕ → ℕ → ℕ
 reduced n p = bit_xor p (modulus * 2 ^ n * coefficient p (8 + n))
 
@@ -53,12 +52,12 @@ unfolding remainder
 remainder-xor zero p q = refl
 remainder-xor (suc n) p q = ap (remainder n) (reduced-xor n p q) ∙ remainder-xor n (reduced n p) (reduced n q)
 
--- a product of a sum is the sum of the products
+-- the product with a sum is the sum of the products
 pub mul-xor : (a p q : ℕ) → mul a (bit_xor p q) ≡ bit_xor (mul a p) (mul a q)
 unfolding mul
 mul-xor a p q = ap (remainder 7) (product-xor a p q 8) ∙ remainder-xor 7 (product a p 8) (product a q 8)
 
--- the inverse is what its name says
+-- a byte other than 0 times its `field_inverse` is 1
 mul_inverse_test : passes_below 255 (λ x. eqb (mul (x + 1) (field_inverse (x + 1))) 1) ≡ true
 unfolding mul product remainder squares_product field_inverse
 mul_inverse_test = refl

@@ -1,10 +1,9 @@
--- The inverse cipher undoes the cipher, and the cipher the inverse cipher, under any words whose keys of
--- the rounds are states.
+-- The inverse cipher undoes the cipher, and the cipher the inverse cipher, under any words whose round keys are states.
 use Rattle.std.proofs.Common.{◌≡◌, ℕ, zero, suc, ◌-◌, ◌≤◌, List, refl, ap, ◌∙◌, arith}
 use Rattle.aes_block.specs.Aes.{round_key, full_rounds, cipher_with, inverse_rounds, inverse_cipher_with, add_round_key, sub_bytes, shift_rows, mix_columns, inverse_sub_bytes, inverse_shift_rows, inverse_mix_columns}
 use Rattle.aes_block.proofs.States.{IsState, IsState-add_round_key, add_round_key_undone, IsState-sub_bytes, IsState-inverse_sub_bytes, inverse_sub_bytes-sub_bytes, sub_bytes-inverse_sub_bytes, IsState-shift_rows, IsState-inverse_shift_rows, inverse_shift_rows-shift_rows, shift_rows-inverse_shift_rows, IsState-mix_columns, IsState-inverse_mix_columns, inverse_mix_columns-mix_columns, mix_columns-inverse_mix_columns}
 
--- the keys of the rounds 0 to n are states
+-- the round keys 0 to n are states
 abbrev pub HasKeys : List (List ℕ) → ℕ → Type 0
 HasKeys words n = (r : ℕ) → r ≤ n → IsState (round_key words r)
 
@@ -39,7 +38,7 @@ IsState-full_rounds words block (suc n) is keys =
     IsState-add_round_key (mix_columns (scrambled s)) (round_key words (suc n))
     (IsState-mix_columns (scrambled s) (IsState-scrambled s before)) (keys (suc n) (omega arith))
 
--- the inverse's full rounds take the cipher's back, the last one first
+-- the full rounds of the inverse cipher undo those of the cipher, the last one first
 rounds_undone : (words : List (List ℕ)) (block : List ℕ) (n : ℕ) → IsState block → HasKeys words n
     → inverse_rounds words (scrambled (full_rounds words block n)) n ≡ scrambled (full_rounds words block 0)
 unfolding full_rounds inverse_rounds
@@ -82,7 +81,7 @@ IsState-inverse_rounds words s (suc n) is keys =
     (IsState-inverse_mix_columns t (IsState-add_round_key (unscrambled s) (round_key words (suc n))
     (IsState-unscrambled s is) (keys (suc n) (omega arith)))) (λ r le. keys r (omega arith))
 
--- where the inverse ends, the cipher's full rounds begin
+-- the result of the inverse cipher, with which the full rounds of the cipher begin
 abbrev found_block : List (List ℕ) → List ℕ → ℕ → List ℕ
 found_block words s n = add_round_key (unscrambled (inverse_rounds words s n)) (round_key words 0)
 

@@ -1,8 +1,8 @@
--- The keys of the rounds in the schedules, and a round of the inverse with a mixed key.
+-- The round keys in the schedules, and a round of the inverse cipher with a mixed round key.
 use Rattle.std.proofs.Common.{◌≡◌, ℕ, suc, ◌+◌, ◌*◌, ◌/◌, ◌%◌, ◌<◌, ◌≤◌, List, ◌++◌, refl, sym, ap, ◌∙◌, subst, arith}
 use Rattle.aes_block.specs.Aes.{add_round_key, cipher, cipher_with, full_rounds, inverse_cipher, inverse_cipher_with, inverse_mix_columns, inverse_rounds, inverse_shift_rows, inverse_sub_bytes, key_expansion, mix_columns, round_key, shift_rows, sub_bytes}
-use Rattle.aes_block.specs.Schedules.{AreSchedules}
-use Rattle.aes_block.specs.Words.{block_of_round, block_of_words, word_bytes}
+use Rattle.aes_block.specs.inside.Schedules.{AreSchedules}
+use Rattle.aes_block.specs.inside.ColumnWords.{block_of_round, block_of_words, word_bytes}
 use Rattle.aes_block.proofs.Inverse.{HasKeys, cipher-inverse_cipher, inverse_cipher-cipher}
 use Rattle.aes_block.proofs.States.{IsState, inverse_mix_columns-xor_bytes}
 
@@ -26,7 +26,7 @@ pub full_rounds-more : (words : List (List ℕ)) (block : List ℕ) (n : ℕ)
 unfolding full_rounds
 full_rounds-more words block n = let next : n + 1 ≡ suc n = omega arith in rw next refl
 
--- the words of a key that stand in a schedule
+-- the expansion of the key in a schedule
 abbrev pub words_of : List ℕ → List (List ℕ)
 words_of ws = key_expansion (block_of_round ws 0)
 
@@ -61,7 +61,7 @@ module _ (ws mixed : List ℕ) (schedules : AreSchedules ws mixed) where
       ∙ sym (full_rounds-more (words_of ws) block n)
       ∙ ap (full_rounds (words_of ws) block) after
 
-  -- one full round of the inverse: the mix of the key stands for the mix after the key
+  -- one full round of the inverse cipher: mixing the round key replaces mixing the state after the key was added
   pub inverse_round_at : (s next : List ℕ) (n round : ℕ) → round ≡ suc n → round < 10
       → next ≡ add_round_key (inverse_mix_columns (inverse_sub_bytes (inverse_shift_rows s))) (block_of_round mixed round)
       → inverse_rounds (words_of ws) next n ≡ inverse_rounds (words_of ws) s round

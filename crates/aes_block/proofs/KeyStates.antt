@@ -1,5 +1,4 @@
--- Under any key of bytes the keys of the rounds are states, so that the cipher and its inverse undo each
--- other and give blocks.
+-- Under any key of bytes the round keys are states, so the cipher and its inverse undo each other and give blocks.
 use Rattle.std.proofs.Common.{◌≡◌, ℕ, zero, suc, ◌+◌, ◌-◌, ◌*◌, ◌/◌, ◌<◌, ◌≤◌, lit<, Bool, true, false, cond, List, [], ◌∷◌, ◌++◌, length, get_or, refl, sym, ◌∙◌, arith, ltb, length-append}
 use Rattle.std.proofs.lemmas.List.{length-map}
 use Rattle.aes_block.specs.Field.{product, remainder, mul, power_of_x}
@@ -9,7 +8,7 @@ use Rattle.aes_block.proofs.Inverse.{HasKeys, scrambled, unscrambled, IsState-sc
 use Rattle.aes_block.proofs.States.{AllBytes, AllBytes-append, AllBytes-map, AllBytes-xor_bytes, IsState, IsState-add_round_key, byte_lt, length-xor_bytes}
 use Rattle.aes_block.proofs.Substitution.{sub_byte-lt}
 
--- a list of which each entry is a byte has bytes alone
+-- a list whose entries are bytes is a list of bytes
 pub AllBytes_from_each : (s : List ℕ) → ((k : ℕ) → get_or s k 0 < 256) → AllBytes s
 AllBytes_from_each [] fit = tt
 AllBytes_from_each (x ∷ xs) fit = (fit 0, AllBytes_from_each xs (λ k. fit (suc k)))
@@ -121,7 +120,7 @@ AllWords-expanded_words key (suc n) long fit =
     (IsWord-xor_bytes (get_or ws (nk + n - nk) []) (expansion_step nk (nk + n) (get_or ws (nk + n - 1) [])) far
     (IsWord-expansion_step nk (nk + n) (get_or ws (nk + n - 1) []) near))
 
--- ---- the keys of the rounds
+-- ---- the round keys
 
 IsState-four_words : (a b c d : List ℕ) → IsWord a → IsWord b → IsWord c → IsWord d → IsState (a ++ (b ++ (c ++ d)))
 IsState-four_words a b c d ia ib ic id = record {

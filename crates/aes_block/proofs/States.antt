@@ -1,4 +1,4 @@
--- States and bytes: what the steps of a round keep, and that each is undone by its inverse.
+-- States: each step of a round maps states to states, and is undone by its inverse.
 use Rattle.std.proofs.Common.{◌≡◌, ℕ, zero, suc, ◌<◌, lit<, List, [], ◌∷◌, ◌++◌, length, map, get_or, true, refl, sym, ap, ◌∙◌, arith, bit_xor, ltb}
 use Rattle.std.proofs.lemmas.Nat.{xor_of_8}
 use Rattle.std.proofs.lemmas.List.{length-map}
@@ -9,12 +9,12 @@ use Rattle.aes_block.proofs.Bytes.{passes_below, bounded_below}
 use Rattle.aes_block.proofs.Columns.{word_product_row-xor, undone_row_0, undone_row_1, undone_row_2, undone_row_3, redone_row_0, redone_row_1, redone_row_2, redone_row_3}
 use Rattle.aes_block.proofs.Substitution.{sub_byte-lt, inverse_sub_byte-lt, inverse_sub_byte-sub_byte, sub_byte-inverse_sub_byte}
 
--- each member is a byte
+-- each number of the list is a byte
 abbrev pub AllBytes : List ℕ → Type 0
 AllBytes [] = Unit {0}
 AllBytes (x ∷ xs) = (x < 256) × AllBytes xs
 
--- sixteen bytes
+-- a state is sixteen bytes
 pub record IsState (s : List ℕ) : Type 0 where
   pub size : length s ≡ 16
   pub bytes : AllBytes s
@@ -49,7 +49,7 @@ length-xor_bytes [] ys same = refl
 length-xor_bytes (x ∷ xs) [] same = absurd (omega arith)
 length-xor_bytes (x ∷ xs) (y ∷ ys) same = ap suc (length-xor_bytes xs ys (omega arith))
 
--- to add a list twice is to do nothing
+-- adding a list twice changes nothing
 pub xor_bytes-xor_bytes : (xs ys : List ℕ) → length xs ≡ length ys → xor_bytes (xor_bytes xs ys) ys ≡ xs
 unfolding xor_bytes
 xor_bytes-xor_bytes [] ys same = refl
@@ -379,7 +379,7 @@ xor_written_out s k = λ i. word_product_row-xor inverse_mix_word 0 (get_or s 0 
     word_product_row-xor inverse_mix_word 2 (get_or s 12 0) (get_or s 13 0) (get_or s 14 0) (get_or s 15 0) (get_or k 12 0) (get_or k 13 0) (get_or k 14 0) (get_or k 15 0) i ∷
     word_product_row-xor inverse_mix_word 3 (get_or s 12 0) (get_or s 13 0) (get_or s 14 0) (get_or s 15 0) (get_or k 12 0) (get_or k 13 0) (get_or k 14 0) (get_or k 15 0) i ∷ []
 
--- the inverse mix of a sum is the sum of the inverse mixes (5.3.5)
+-- InvMixColumns() of a sum is the sum of the InvMixColumns() (5.3.5)
 pub inverse_mix_columns-xor_bytes : (s k : List ℕ) → length s ≡ 16 → length k ≡ 16
     → inverse_mix_columns (xor_bytes s k) ≡ xor_bytes (inverse_mix_columns s) (inverse_mix_columns k)
 inverse_mix_columns-xor_bytes s k ss sk =

@@ -1,4 +1,4 @@
--- The two substitutions undo each other, and give bytes.
+-- The two substitutions undo each other, and map bytes to bytes.
 use Rattle.std.proofs.Common.{◌≡◌, ℕ, ◌<◌, true, refl, eqb, ltb}
 use Rattle.aes_block.specs.Field.{product, remainder, mul, squares_product, field_inverse}
 use Rattle.aes_block.specs.Aes.{sub_byte, inverse_sub_byte}

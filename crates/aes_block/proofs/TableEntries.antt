@@ -1,9 +1,9 @@
--- Each entry of the tables is what the definitions give, by computing the entry at each byte.
+-- Each table entry is what the definitions give, proved by computing the entry for each byte.
 use Rattle.std.proofs.Common.{◌≡◌, ℕ, ◌<◌, [], ◌∷◌, Bool, true, ◌&&◌, get_or, refl, eqb, eqb-true}
 use Rattle.std.proofs.lemmas.Bool.{and_parts}
 use Rattle.aes_block.specs.Field.{product, remainder, mul, squares_product, field_inverse, power_of_x}
 use Rattle.aes_block.specs.Aes.{sub_byte, inverse_sub_byte}
-use Rattle.aes_block.specs.Words.{word_byte, word_bytes}
+use Rattle.aes_block.specs.inside.ColumnWords.{word_byte, word_bytes}
 use Rattle.aes_block.specs.declared.tables.TheConstants.{SUB_BYTE, INVERSE_SUB_BYTE, MIX_FIRST, MIX_SECOND, MIX_THIRD, MIX_FOURTH, INVERSE_MIX_FIRST, INVERSE_MIX_SECOND, INVERSE_MIX_THIRD, INVERSE_MIX_FOURTH}
 use Rattle.aes_block.specs.declared.schedule.TheConstants.{ROUND_CONSTANTS}
 use Rattle.aes_block.proofs.Bytes.{passes_below, passed, same_below}

@@ -1,5 +1,3 @@
 pub mod Field
 pub mod Aes
-pub mod Words
-pub mod Schedules
-pub mod Examples
+pub mod inside

@@ -1,8 +1,8 @@
-//! A key of 16 bytes with its schedules, which are computed once. Contracts see it as the key. The
-//! section numbers are those of FIPS 197 (2001, updated 2023).
+//! A key of 16 bytes with its schedules, which are computed once. Section numbers are those of FIPS 197 (2001, updated
+//! 2023).
 ghost use Rattle.std.specs.Prelude.{◌≡◌, ℕ, ◌+◌, ◌-◌, ◌≤◌, List};
 ghost use Rattle.aes_block.specs.Aes.{cipher, full_rounds, inverse_cipher, inverse_rounds, key_expansion};
-ghost use Rattle.aes_block.specs.Words.{block_of_words};
+ghost use Rattle.aes_block.specs.inside.ColumnWords.{block_of_words};
 
 use crate::rounds::{
     add_key, full_round, inverse_full_round, inverse_last_round, last_round, load, store,
@@ -10,22 +10,22 @@ use crate::rounds::{
 use crate::schedule::{expand, inverse_keys};
 use std::marker::Model;
 
-/// A key of AES-128.
+/// A key of AES-128. In contracts it is the list of the key's bytes.
 ///
-/// [`encrypt`](Key128::encrypt) and [`decrypt`](Key128::decrypt) look bytes up in tables, so the
-/// time that they take can tell of the key and the block.
+/// [`encrypt`](Key128::encrypt) and [`decrypt`](Key128::decrypt) look bytes up in tables, so their time may leak
+/// information about the key and the block.
 #[derive(Drop)]
 pub struct Key128 {
     // The words of the key's expansion.
     words: [u32; 44],
-    // Those of the full rounds, after the inverse mix.
+    // The same words, those of the full rounds multiplied by the matrix of InvMixColumns().
     mixed: [u32; 44],
 }
 
 impl Model for Key128 {
     ghost use Rattle.std.specs.Prelude.{ℕ, List};
-    ghost use Rattle.aes_block.specs.Words.{block_of_round};
-    ghost use Rattle.aes_block.specs.Schedules.{AreSchedules};
+    ghost use Rattle.aes_block.specs.inside.ColumnWords.{block_of_round};
+    ghost use Rattle.aes_block.specs.inside.Schedules.{AreSchedules};
 
     ghost Value = { List ℕ };
 
@@ -35,7 +35,7 @@ impl Model for Key128 {
 }
 
 impl Key128 {
-    /// The schedules of `key`.
+    /// Computes the schedules of `key`.
     pub fn new(key: [u8; 16]) -> Key128
         ensures { result ≡ key }
     {
@@ -68,8 +68,8 @@ impl Key128 {
         store(add_key(inverse_last_round(ninth), &self.words, 0))
     }
 
-    // The full rounds from `round` on. They are written out, since in a loop the compiler moves the
-    // state to and from vectors in each round, which costs a third of the time.
+    /// Three full rounds, from `round` on. They are not a loop, since there the compiler moves the state to and from
+    /// vector registers in each round, which costs a third of the time.
     #[inline(always)]
     fn three_rounds(&self, state: [u32; 4], round: usize) -> [u32; 4]
         requires low { 1 ≤ round }
@@ -83,7 +83,7 @@ impl Key128 {
         add_key(full_round(second), &self.words, round + 2)
     }
 
-    // The full rounds of the inverse from `round` down.
+    /// Three full rounds of the inverse cipher, from `round` down.
     #[inline(always)]
     fn three_inverse_rounds(&self, state: [u32; 4], round: usize) -> [u32; 4]
         requires low { 3 ≤ round }

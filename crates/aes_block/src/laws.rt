@@ -1,12 +1,10 @@
-//! What the definitions say of blocks and of the standard's examples. These functions do nothing:
-//! their contracts are the laws.
+//! Laws of the definitions. These functions do nothing: their contracts are the laws.
 ghost use Rattle.std.specs.Prelude.{◌≡◌, ℕ, ◌<◌, List};
 ghost use Rattle.aes_block.specs.Aes.{AreBytes, cipher, inverse_cipher, sub_byte};
-ghost use Rattle.aes_block.specs.Examples.{example_block, example_cipher_128, example_cipher_256, example_key_128, example_key_256};
+ghost use Rattle.aes_block.specs.inside.Examples.{example_block, example_cipher_128, example_cipher_256, example_key_128, example_key_256};
 ghost use Rattle.aes_block.specs.Field.{field_inverse, mul};
 
-/// A law: under a key of 16 bytes the cipher of a block and its inverse cipher are blocks, and each
-/// is undone by the other.
+/// A law: under a key of 16 bytes, the cipher and the inverse cipher of a block are blocks, and each undoes the other.
 pub fn inverse_cipher_undoes_cipher()
     ensures deciphered { (key block : List ℕ) → AreBytes 16 key → AreBytes 16 block
         → inverse_cipher key (cipher key block) ≡ block }
@@ -18,7 +16,7 @@ pub fn inverse_cipher_undoes_cipher()
         → AreBytes 16 (inverse_cipher key block) }
 {}
 
-/// A law: the definitions give the standard's examples (4.2, 5.1.1, appendix C).
+/// A law: the definitions agree with the standard's examples (4.2, 5.1.1, appendix C).
 pub fn definitions_give_the_examples()
     ensures product { mul 0x57 0x83 ≡ 0xc1 }
     ensures substitution { sub_byte 0x53 ≡ 0xed }

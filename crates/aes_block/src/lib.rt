@@ -1,4 +1,4 @@
-//! AES with a key of 16 bytes (FIPS 197, 2001, updated 2023).
+//! AES-128: AES with a key of 16 bytes (FIPS 197, 2001, updated 2023).
 #![tactic(auto)]
 
 pub use key128::Key128;

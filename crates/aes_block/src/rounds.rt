@@ -1,15 +1,15 @@
-//! The rounds of the cipher and of its inverse on a state of four words, one a column, with row 0
-//! in the highest byte. A full round looks up, for each byte, what it gives to its column.
+//! The rounds of the cipher and of its inverse. A state is four words, one for each column, with row 0 in the highest
+//! byte. A full round looks up in a table what each byte contributes to its column.
 ghost use Rattle.std.specs.Prelude.{◌≡◌, ◌<◌, [], ◌∷◌, length};
 ghost use Rattle.aes_block.specs.Aes.{add_round_key, inverse_mix_columns, inverse_mix_word, inverse_shift_rows, inverse_sub_byte, inverse_sub_bytes, mix_columns, mix_word, shift_rows, sub_byte, sub_bytes, word_product};
-ghost use Rattle.aes_block.specs.Words.{block_of_round, block_of_words, word_byte, word_bytes};
+ghost use Rattle.aes_block.specs.inside.ColumnWords.{block_of_round, block_of_words, word_byte, word_bytes};
 
 use crate::tables::{
     INVERSE_MIX_FIRST, INVERSE_MIX_FOURTH, INVERSE_MIX_SECOND, INVERSE_MIX_THIRD, INVERSE_SUB_BYTE,
     MIX_FIRST, MIX_FOURTH, MIX_SECOND, MIX_THIRD, SUB_BYTE,
 };
 
-// The state of a block.
+/// The state of a block.
 #[inline(always)]
 pub(crate) fn load(block: &[u8]) -> [u32; 4]
     requires { length block.now ≡ 16 }
@@ -23,7 +23,7 @@ pub(crate) fn load(block: &[u8]) -> [u32; 4]
     ]
 }
 
-// The block of a state.
+/// The block of a state.
 #[inline(always)]
 pub(crate) fn store(state: [u32; 4]) -> [u8; 16]
     ensures { result ≡ block_of_words state }
@@ -38,7 +38,7 @@ pub(crate) fn store(state: [u32; 4]) -> [u8; 16]
     ]
 }
 
-// The highest byte of a word, as an index. The next three are the bytes below it, in order.
+/// The highest byte of a word, as an index.
 #[inline(always)]
 pub(crate) fn first_byte(word: u32) -> usize
     ensures { result ≡ word_byte word 0 }
@@ -46,6 +46,7 @@ pub(crate) fn first_byte(word: u32) -> usize
     (word >> 24) as usize
 }
 
+/// The second highest byte of a word, as an index.
 #[inline(always)]
 pub(crate) fn second_byte(word: u32) -> usize
     ensures { result ≡ word_byte word 1 }
@@ -53,6 +54,7 @@ pub(crate) fn second_byte(word: u32) -> usize
     ((word >> 16) % 0x100) as usize
 }
 
+/// The third highest byte of a word, as an index.
 #[inline(always)]
 pub(crate) fn third_byte(word: u32) -> usize
     ensures { result ≡ word_byte word 2 }
@@ -60,6 +62,7 @@ pub(crate) fn third_byte(word: u32) -> usize
     ((word >> 8) % 0x100) as usize
 }
 
+/// The lowest byte of a word, as an index.
 #[inline(always)]
 pub(crate) fn fourth_byte(word: u32) -> usize
     ensures { result ≡ word_byte word 3 }
@@ -67,7 +70,7 @@ pub(crate) fn fourth_byte(word: u32) -> usize
     (word % 0x100) as usize
 }
 
-// A state plus the key of a round.
+/// Adds a round key to the state.
 #[inline(always)]
 pub(crate) fn add_key(state: [u32; 4], keys: &[u32; 44], round: usize) -> [u32; 4]
     requires { round < 11 }
@@ -83,8 +86,7 @@ pub(crate) fn add_key(state: [u32; 4], keys: &[u32; 44], round: usize) -> [u32; 
     ]
 }
 
-// The mixed column of the substituted bytes in row 0 of `a`, row 1 of `b`, row 2 of `c` and row 3
-// of `d`.
+/// The mixed column of four substituted bytes: row 0 of `a`, row 1 of `b`, row 2 of `c` and row 3 of `d`.
 #[inline(always)]
 fn mixed(a: u32, b: u32, c: u32, d: u32) -> u32
     ensures { word_bytes result ≡ word_product mix_word
@@ -97,7 +99,7 @@ fn mixed(a: u32, b: u32, c: u32, d: u32) -> u32
         ^ MIX_FOURTH[fourth_byte(d)]
 }
 
-// The same under the inverse substitution and the inverse mix.
+/// The same with the inverse substitution and the matrix of InvMixColumns().
 #[inline(always)]
 pub(crate) fn inverse_mixed(a: u32, b: u32, c: u32, d: u32) -> u32
     ensures { word_bytes result ≡ word_product inverse_mix_word
@@ -110,7 +112,7 @@ pub(crate) fn inverse_mixed(a: u32, b: u32, c: u32, d: u32) -> u32
         ^ INVERSE_MIX_FOURTH[fourth_byte(d)]
 }
 
-// The column of the substituted bytes, with no mix.
+/// The column of the substituted bytes, not mixed.
 #[inline(always)]
 pub(crate) fn substituted(a: u32, b: u32, c: u32, d: u32) -> u32
     ensures { word_bytes result ≡ sub_byte (word_byte a 0) ∷ sub_byte (word_byte b 1)
@@ -124,6 +126,7 @@ pub(crate) fn substituted(a: u32, b: u32, c: u32, d: u32) -> u32
     ])
 }
 
+/// The column of the bytes under the inverse substitution, not mixed.
 #[inline(always)]
 fn inverse_substituted(a: u32, b: u32, c: u32, d: u32) -> u32
     ensures { word_bytes result
@@ -138,7 +141,7 @@ fn inverse_substituted(a: u32, b: u32, c: u32, d: u32) -> u32
     ])
 }
 
-// A full round of the cipher, without its key.
+/// A full round of the cipher, without its round key.
 #[inline(always)]
 pub(crate) fn full_round(state: [u32; 4]) -> [u32; 4]
     ensures { block_of_words result ≡ mix_columns (shift_rows (sub_bytes (block_of_words state))) }
@@ -152,7 +155,7 @@ pub(crate) fn full_round(state: [u32; 4]) -> [u32; 4]
     ]
 }
 
-// The last round of the cipher, without its key.
+/// The last round of the cipher, without its round key.
 #[inline(always)]
 pub(crate) fn last_round(state: [u32; 4]) -> [u32; 4]
     ensures { block_of_words result ≡ shift_rows (sub_bytes (block_of_words state)) }
@@ -166,7 +169,7 @@ pub(crate) fn last_round(state: [u32; 4]) -> [u32; 4]
     ]
 }
 
-// A full round of the inverse, without its key.
+/// A full round of the inverse cipher, without its round key.
 #[inline(always)]
 pub(crate) fn inverse_full_round(state: [u32; 4]) -> [u32; 4]
     ensures { block_of_words result
@@ -181,7 +184,7 @@ pub(crate) fn inverse_full_round(state: [u32; 4]) -> [u32; 4]
     ]
 }
 
-// The last round of the inverse, without its key.
+/// The last round of the inverse cipher, without its round key.
 #[inline(always)]
 pub(crate) fn inverse_last_round(state: [u32; 4]) -> [u32; 4]
     ensures { block_of_words result

@@ -1,7 +1,7 @@
-//! The words of a key's expansion, and the keys of the inverse's full rounds.
+//! Key expansion, and the round keys of the inverse cipher.
 ghost use Rattle.std.specs.Prelude.{◌≡◌, ℕ, ◌<◌, ◌≤◌, [], ◌∷◌, slice_index};
 ghost use Rattle.aes_block.specs.Aes.{expansion_step, inverse_mix_word, key_expansion, rot_word, sub_word, word, xor_bytes};
-ghost use Rattle.aes_block.specs.Words.{block_of_round, times_word, word_bytes};
+ghost use Rattle.aes_block.specs.inside.ColumnWords.{block_of_round, times_word, word_bytes};
 
 use crate::rounds::{
     first_byte, fourth_byte, inverse_mixed, load, second_byte, substituted, third_byte,
@@ -11,7 +11,7 @@ use crate::tables::SUB_BYTE;
 // The powers of x in the field, from x^0 on.
 static ROUND_CONSTANTS: [u8; 10] = [0x01, 0x02, 0x04, 0x08, 0x10, 0x20, 0x40, 0x80, 0x1b, 0x36];
 
-// The first byte of a substituted and turned word gets the round's constant.
+/// SubWord() of RotWord() of a word, with the round constant added to its first byte.
 fn turned(before: u32, constant: u8) -> u32
     ensures { word_bytes result ≡ xor_bytes (sub_word (rot_word (word_bytes before)))
         (constant ∷ 0 ∷ 0 ∷ 0 ∷ []) }
@@ -24,7 +24,7 @@ fn turned(before: u32, constant: u8) -> u32
     ])
 }
 
-// What is added to word `i - 4` for word `i`, from the word before it.
+/// What is added to word `i - 4` to give word `i`, computed from the word before it.
 fn step(i: usize, before: u32) -> u32
     requires low { 4 ≤ i }
     requires high { i < 44 }
@@ -37,7 +37,7 @@ fn step(i: usize, before: u32) -> u32
     }
 }
 
-// The words of a key.
+/// The words of a key's expansion.
 pub(crate) fn expand(key: [u8; 16]) -> [u32; 44]
     ensures given { block_of_round result 0 ≡ key }
     ensures words { (i : ℕ) → i < 44
@@ -55,7 +55,7 @@ pub(crate) fn expand(key: [u8; 16]) -> [u32; 44]
     words
 }
 
-// The inverse mix of a word, by the tables of the inverse substitution.
+/// The product of a word with the matrix of InvMixColumns(), by the tables of the inverse substitution.
 fn inverse_mixed_word(word: u32) -> u32
     ensures { word_bytes result ≡ times_word inverse_mix_word word }
 {
@@ -63,7 +63,8 @@ fn inverse_mixed_word(word: u32) -> u32
     inverse_mixed(s, s, s, s)
 }
 
-// The keys of the inverse's rounds: those of its full rounds are mixed.
+/// The words of the inverse cipher's round keys. Those of the full rounds are multiplied by the matrix of
+/// InvMixColumns().
 pub(crate) fn inverse_keys(words: &[u32; 44]) -> [u32; 44]
     ensures { (i : ℕ) → 4 ≤ i → i < 40 → word_bytes (slice_index result i)
         ≡ times_word inverse_mix_word (slice_index words.now i) }

@@ -1,6 +1,5 @@
-//! The tables of the substitution, and of a substitution followed by the product with one byte of a
-//! column. Each entry is proved to be what the standard's definitions give, so no origin is
-//! trusted.
+//! Tables of the substitution of a byte, and of what a substituted byte contributes to a mixed column. Each entry is
+//! proved equal to what the standard's definitions give, so the tables need not be trusted.
 
 // The substitution of a byte.
 pub(crate) static SUB_BYTE: [u8; 256] = [
@@ -42,7 +41,7 @@ pub(crate) static INVERSE_SUB_BYTE: [u8; 256] = [
     0x17, 0x2b, 0x04, 0x7e, 0xba, 0x77, 0xd6, 0x26, 0xe1, 0x69, 0x14, 0x63, 0x55, 0x21, 0x0c, 0x7d,
 ];
 
-// What the substitution of a byte in row 0 gives to its mixed column, row 0 in the highest byte.
+// What a byte in row 0 contributes to the mixed column after its substitution, with row 0 in the highest byte.
 pub(crate) static MIX_FIRST: [u32; 256] = [
     0xc66363a5, 0xf87c7c84, 0xee777799, 0xf67b7b8d, 0xfff2f20d, 0xd66b6bbd, 0xde6f6fb1, 0x91c5c554,
     0x60303050, 0x02010103, 0xce6767a9, 0x562b2b7d, 0xe7fefe19, 0xb5d7d762, 0x4dababe6, 0xec76769a,
@@ -78,7 +77,7 @@ pub(crate) static MIX_FIRST: [u32; 256] = [
     0x824141c3, 0x299999b0, 0x5a2d2d77, 0x1e0f0f11, 0x7bb0b0cb, 0xa85454fc, 0x6dbbbbd6, 0x2c16163a,
 ];
 
-// What the substitution of a byte in row 1 gives to its mixed column, row 0 in the highest byte.
+// What a byte in row 1 contributes to the mixed column after its substitution, with row 0 in the highest byte.
 pub(crate) static MIX_SECOND: [u32; 256] = [
     0xa5c66363, 0x84f87c7c, 0x99ee7777, 0x8df67b7b, 0x0dfff2f2, 0xbdd66b6b, 0xb1de6f6f, 0x5491c5c5,
     0x50603030, 0x03020101, 0xa9ce6767, 0x7d562b2b, 0x19e7fefe, 0x62b5d7d7, 0xe64dabab, 0x9aec7676,
@@ -114,7 +113,7 @@ pub(crate) static MIX_SECOND: [u32; 256] = [
     0xc3824141, 0xb0299999, 0x775a2d2d, 0x111e0f0f, 0xcb7bb0b0, 0xfca85454, 0xd66dbbbb, 0x3a2c1616,
 ];
 
-// What the substitution of a byte in row 2 gives to its mixed column, row 0 in the highest byte.
+// What a byte in row 2 contributes to the mixed column after its substitution, with row 0 in the highest byte.
 pub(crate) static MIX_THIRD: [u32; 256] = [
     0x63a5c663, 0x7c84f87c, 0x7799ee77, 0x7b8df67b, 0xf20dfff2, 0x6bbdd66b, 0x6fb1de6f, 0xc55491c5,
     0x30506030, 0x01030201, 0x67a9ce67, 0x2b7d562b, 0xfe19e7fe, 0xd762b5d7, 0xabe64dab, 0x769aec76,
@@ -150,7 +149,7 @@ pub(crate) static MIX_THIRD: [u32; 256] = [
     0x41c38241, 0x99b02999, 0x2d775a2d, 0x0f111e0f, 0xb0cb7bb0, 0x54fca854, 0xbbd66dbb, 0x163a2c16,
 ];
 
-// What the substitution of a byte in row 3 gives to its mixed column, row 0 in the highest byte.
+// What a byte in row 3 contributes to the mixed column after its substitution, with row 0 in the highest byte.
 pub(crate) static MIX_FOURTH: [u32; 256] = [
     0x6363a5c6, 0x7c7c84f8, 0x777799ee, 0x7b7b8df6, 0xf2f20dff, 0x6b6bbdd6, 0x6f6fb1de, 0xc5c55491,
     0x30305060, 0x01010302, 0x6767a9ce, 0x2b2b7d56, 0xfefe19e7, 0xd7d762b5, 0xababe64d, 0x76769aec,
@@ -186,7 +185,7 @@ pub(crate) static MIX_FOURTH: [u32; 256] = [
     0x4141c382, 0x9999b029, 0x2d2d775a, 0x0f0f111e, 0xb0b0cb7b, 0x5454fca8, 0xbbbbd66d, 0x16163a2c,
 ];
 
-// What the inverse substitution of a byte in row 0 gives to its column under the inverse mix.
+// What a byte in row 0 contributes to the column of InvMixColumns() after its inverse substitution.
 pub(crate) static INVERSE_MIX_FIRST: [u32; 256] = [
     0x51f4a750, 0x7e416553, 0x1a17a4c3, 0x3a275e96, 0x3bab6bcb, 0x1f9d45f1, 0xacfa58ab, 0x4be30393,
     0x2030fa55, 0xad766df6, 0x88cc7691, 0xf5024c25, 0x4fe5d7fc, 0xc52acbd7, 0x26354480, 0xb562a38f,
@@ -222,7 +221,7 @@ pub(crate) static INVERSE_MIX_FIRST: [u32; 256] = [
     0x39a80171, 0x080cb3de, 0xd8b4e49c, 0x6456c190, 0x7bcb8461, 0xd532b670, 0x486c5c74, 0xd0b85742,
 ];
 
-// What the inverse substitution of a byte in row 1 gives to its column under the inverse mix.
+// What a byte in row 1 contributes to the column of InvMixColumns() after its inverse substitution.
 pub(crate) static INVERSE_MIX_SECOND: [u32; 256] = [
     0x5051f4a7, 0x537e4165, 0xc31a17a4, 0x963a275e, 0xcb3bab6b, 0xf11f9d45, 0xabacfa58, 0x934be303,
     0x552030fa, 0xf6ad766d, 0x9188cc76, 0x25f5024c, 0xfc4fe5d7, 0xd7c52acb, 0x80263544, 0x8fb562a3,
@@ -258,7 +257,7 @@ pub(crate) static INVERSE_MIX_SECOND: [u32; 256] = [
     0x7139a801, 0xde080cb3, 0x9cd8b4e4, 0x906456c1, 0x617bcb84, 0x70d532b6, 0x74486c5c, 0x42d0b857,
 ];
 
-// What the inverse substitution of a byte in row 2 gives to its column under the inverse mix.
+// What a byte in row 2 contributes to the column of InvMixColumns() after its inverse substitution.
 pub(crate) static INVERSE_MIX_THIRD: [u32; 256] = [
     0xa75051f4, 0x65537e41, 0xa4c31a17, 0x5e963a27, 0x6bcb3bab, 0x45f11f9d, 0x58abacfa, 0x03934be3,
     0xfa552030, 0x6df6ad76, 0x769188cc, 0x4c25f502, 0xd7fc4fe5, 0xcbd7c52a, 0x44802635, 0xa38fb562,
@@ -294,7 +293,7 @@ pub(crate) static INVERSE_MIX_THIRD: [u32; 256] = [
     0x017139a8, 0xb3de080c, 0xe49cd8b4, 0xc1906456, 0x84617bcb, 0xb670d532, 0x5c74486c, 0x5742d0b8,
 ];
 
-// What the inverse substitution of a byte in row 3 gives to its column under the inverse mix.
+// What a byte in row 3 contributes to the column of InvMixColumns() after its inverse substitution.
 pub(crate) static INVERSE_MIX_FOURTH: [u32; 256] = [
     0xf4a75051, 0x4165537e, 0x17a4c31a, 0x275e963a, 0xab6bcb3b, 0x9d45f11f, 0xfa58abac, 0xe303934b,
     0x30fa5520, 0x766df6ad, 0xcc769188, 0x024c25f5, 0xe5d7fc4f, 0x2acbd7c5, 0x35448026, 0x62a38fb5,

@@ -10,7 +10,7 @@ fn the_standards_block_is_enciphered_and_deciphered(rt: HostRuntime) {
     assert_eq!(rt; key.decrypt(cipher), plain);
 }
 
-// A key, a block and its cipher, made by `openssl enc -aes-128-ecb -nopad` (OpenSSL 3.0.19).
+// Each row is a key, a block and its cipher, computed by `openssl enc -aes-128-ecb -nopad` (OpenSSL 3.0.19).
 #[test]
 fn blocks_are_those_of_openssl(rt: HostRuntime) {
     let rows: [(u128, u128, u128); 5] = [

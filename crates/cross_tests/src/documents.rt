@@ -1,4 +1,4 @@
-//! Small documents of elements `a`, `b` and `c` and of texts, as numbers are drawn.
+//! Small pseudorandom documents of elements `a`, `b` and `c` and of texts.
 
 ghost use Rattle.std.specs.Prelude.{◌≡◌, ◌≤◌, true, map, IfOk};
 ghost use Rattle.std.specs.List.{list_all};

@@ -1,8 +1,8 @@
-//! Numbers that seem to be drawn, the same in each run.
+//! Pseudorandom numbers, the same in each run.
 
 ghost use Rattle.std.specs.Prelude.{◌<◌};
 
-/// A linear congruential generator with 32 bits, of which the upper 16 are told.
+/// A linear congruential generator with 32 bits, of which the upper 16 are used.
 #[derive(Clone, Copy, Debug)]
 pub struct Draws {
     seed: u32,

@@ -1,5 +1,5 @@
-//! Tests that compare parts of the project with each other, on documents that are made. Nothing
-//! stands on this crate.
+//! Tests that compare parts of the project with each other on pseudorandom documents. No other crate
+//! uses this one.
 #![tactic(auto)]
 
 mod documents;

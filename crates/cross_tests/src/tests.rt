@@ -1,4 +1,4 @@
-//! What tokens and signs say at each element is compared with what the rules mean on the tree.
+//! Compares what tokens and signs say at each element with what the rules mean on the tree.
 
 use super::*;
 use acl_bits::Row;
@@ -12,7 +12,7 @@ use std::test::Fail;
 use token_stack::Tokens;
 use tree_meaning::{Told, explain_tree, selected, sign_at};
 
-/// The most elements that stand in each other.
+/// The most elements that are open at once.
 const DEPTH: u16 = 4;
 
 /// The start or the end of an element.
@@ -102,7 +102,7 @@ fn does_select(alloc: Global, doc: &Doc, rule: &Rule, place: &[u64]) -> Result<b
     Ok(places.iter().any(|other| other.as_slice() == place))
 }
 
-/// Whether the row has just the rules that select the place.
+/// Whether the set has exactly the rules that select the place.
 fn is_row_meant(
     alloc: Global,
     meaning: &Meaning,
@@ -117,7 +117,8 @@ fn is_row_meant(
     Ok(true)
 }
 
-/// Whether the sign, and the rule that it comes from where that is told, are those of the place.
+/// Whether the sign is that of the place, and the rule is the one that an explanation names, if it has an
+/// entry for the place.
 fn is_sign_meant(
     alloc: Global,
     meaning: &Meaning,
@@ -153,7 +154,7 @@ fn edges_of(alloc: Global, doc: &Doc, names: &[Name]) -> Result<Vec<Edge>, Fail>
     Err("no end".into())
 }
 
-/// Feeds tokens and signs with the edges of a document: whether they say what is meant at each
+/// Feeds tokens and signs with the starts and ends of a document. Returns whether they are right at each
 /// start.
 fn is_followed(
     alloc: Global,
@@ -190,7 +191,7 @@ fn is_followed(
     Ok(level == 0 && left.is_empty())
 }
 
-/// Whether tokens and signs say what is meant of one more document with three rules.
+/// Whether tokens and signs are right for one more document with three rules.
 fn is_next_followed(alloc: Global, names: &[Name], draws: &mut Draws) -> Result<bool, Fail> {
     let doc = some_document(alloc, draws, DEPTH)?;
     let rules = vec![in alloc;

@@ -9,9 +9,9 @@ use Rattle.acl_model.specs.declared.document.Doc.{Doc}
 use Rattle.acl_outside.specs.Outside.{CountsWhere}
 use Rattle.esis_lines.specs.declared.doc_fault.DocFault.{DocFault}
 use Rattle.esis_lines.specs.declared.doc_fault.DocFault.TheVariants.{BadLine, Unsupported, Unbalanced, NoRoot, SecondRoot, TooDeep, NameTooLong, InputTooLong, SourceFault, TooManyAttributes, NoMemory}
-use Rattle.esis_lines.specs.Machine.{read_doc_of}
-use Rattle.esis_lines.specs.Answers.{ButForMemory, IfAboutBytes, IsTrueAnswer, TakesUpTo, is_source_fault}
-use Rattle.esis_lines.specs.Refusals.{is_of_lines}
+use Rattle.esis_lines.specs.LineMachine.{read_doc_of}
+use Rattle.esis_lines.specs.DocumentAnswers.{ButForMemory, IfAboutBytes, IsTrueAnswer, TakesUpTo, is_source_fault}
+use Rattle.esis_lines.specs.LineRefusals.{is_of_lines}
 use Rattle.esis_lines.proofs.FirstRefused.{machine_refuses, refuses_lines}
 use Rattle.esis_lines.proofs.Taken.{document_read}
 

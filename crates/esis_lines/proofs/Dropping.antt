@@ -1,4 +1,4 @@
--- Lines that are of no document change nothing, wherever they may stand.
+-- Lines that are of no document change nothing, wherever they are.
 use Rattle.std.proofs.Common.{◌≡◌, ℕ, ◌+◌, Bool, true, false, not, Ok, List, [], ◌∷◌, length, nat_eq, refl, sym, ap, ◌∙◌, arith}
 use Rattle.std.proofs.lemmas.Bool.{and_from, true≢false}
 use Rattle.std.specs.Cmp.{first_so, second_so}
@@ -10,7 +10,7 @@ use Rattle.acl_model.specs.declared.document.Doc.{Doc}
 use Rattle.esis_lines.specs.declared.doc_fault.DocFault.TheVariants.{BadLine, NoRoot, Unbalanced}
 use Rattle.esis_lines.specs.DocumentText.{IsDocumentText, document_lines}
 use Rattle.esis_lines.specs.LineForms.{capital_c, is_closing, is_passed_by}
-use Rattle.esis_lines.specs.Machine.{Line, State, run, says_closing, document_of_state, read_doc_of}
+use Rattle.esis_lines.specs.LineMachine.{Line, State, run, says_closing, document_of_state, read_doc_of}
 use Rattle.esis_lines.proofs.Kept.{is_kept, kept_closing, document_lines-passed, document_lines-kept, document_lines-within, document_lines-closing}
 use Rattle.esis_lines.proofs.LineReadings.{LineIs, line_said, closing_is, ok_same, not_ok}
 use Rattle.esis_lines.proofs.Running.{run_taken, goes, goes_again}

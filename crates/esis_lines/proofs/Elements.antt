@@ -1,11 +1,11 @@
--- An element is written as what stands before its items, its items and its end, one after another.
+-- An element is written in three parts, one after another: what comes before its items, its items, and its end.
 use Rattle.std.proofs.Common.{◌≡◌, ℕ, List, ◌++◌, map, append_assoc, Option, Result, Ok, Err, IsErr, refl, sym, ◌∙◌}
 use Rattle.std.specs.List.{concat}
 use Rattle.acl_model.specs.Ascii.{capital_a, left_parenthesis, right_parenthesis}
 use Rattle.acl_model.specs.Text.{line, element_text, item_text}
 use Rattle.acl_model.specs.declared.document.Element.{Element}
 use Rattle.acl_model.proofs.TextEquations.{element_text_is}
-use Rattle.acl_outside.specs.Writing.{Writes}
+use Rattle.acl_outside.specs.WrittenText.{Writes}
 use Rattle.acl_outside.proofs.Remaining.{Remains-all, Remains-next, Writes-failed, Writes-rest}
 use Rattle.line_writer.specs.Parts.{start_text}
 

@@ -8,8 +8,8 @@ use Rattle.acl_model.specs.Lines.{lines}
 use Rattle.acl_model.specs.declared.document.Doc.{Doc}
 use Rattle.esis_lines.specs.declared.doc_fault.DocFault.{DocFault}
 use Rattle.esis_lines.specs.DocumentText.{IsDocumentText}
-use Rattle.esis_lines.specs.Machine.{read_doc_of}
-use Rattle.esis_lines.specs.Refusals.{AreTaken, IsRefused, refusal, first_that_fits, causes, causes_at_end, is_of_lines}
+use Rattle.esis_lines.specs.LineMachine.{read_doc_of}
+use Rattle.esis_lines.specs.LineRefusals.{AreTaken, IsRefused, refusal, first_that_fits, causes, causes_at_end, is_of_lines}
 use Rattle.esis_lines.proofs.OwnFaults.{fault_in}
 use Rattle.esis_lines.proofs.Refusing.{first_refusal, or_else, refuses_first}
 use Rattle.esis_lines.proofs.Dropping.{read_document}
@@ -21,23 +21,23 @@ some_same x y h = cc
 turned : (l : List ℕ) (before rest : List (List ℕ)) → reverse (l ∷ before) ++ rest ≡ reverse before ++ (l ∷ rest)
 turned l before rest = ap (λ (ls : List (List ℕ)). ls ++ rest) (reverse_onto before l []) ∙ append_assoc (reverse before) (l ∷ []) rest
 
--- Behind lines that are taken the first refusal is that of the others.
-behind_taken : (before rest : List (List ℕ)) → AreTaken before → first_refusal [] (reverse before ++ rest) ≡ first_refusal before rest
-behind_taken [] rest taken = refl
-behind_taken (l ∷ before) rest taken =
+-- After lines that are taken the first refusal is that of the others.
+after_taken : (before rest : List (List ℕ)) → AreTaken before → first_refusal [] (reverse before ++ rest) ≡ first_refusal before rest
+after_taken [] rest taken = refl
+after_taken (l ∷ before) rest taken =
     ap (first_refusal []) (turned l before rest)
-    ∙ behind_taken before (l ∷ rest) taken.1
+    ∙ after_taken before (l ∷ rest) taken.1
     ∙ ap (λ (o : Option DocFault). or_else o (first_refusal (l ∷ before) rest)) taken.0
 
 pub refused_first : (fault : DocFault) (ls : List (List ℕ)) → IsRefused fault ls → first_refusal [] ls ≡ Some fault
 refused_first fault ls is = elim is [
   | inl r ↦
       ap (first_refusal []) r.3
-      ∙ behind_taken r.0 (r.1 ∷ r.2) r.4
+      ∙ after_taken r.0 (r.1 ∷ r.2) r.4
       ∙ ap (λ (o : Option DocFault). or_else o (first_refusal (r.1 ∷ r.0) r.2)) r.5
   | inr r ↦
       ap (first_refusal []) (sym (append-nil (reverse (reverse ls)) ∙ reverse-reverse ls))
-      ∙ behind_taken (reverse ls) [] r.0
+      ∙ after_taken (reverse ls) [] r.0
       ∙ r.1
 ]
 

@@ -1,4 +1,4 @@
--- What a list of `u8` holds are bytes.
+-- The elements of a list of `u8` are bytes.
 use Rattle.std.proofs.Common.{◌≡◌, ℕ, ◌<◌, true, suc, List, [], ◌∷◌, length, get_or, refl, arith}
 use Rattle.std.proofs.lemmas.Bool.{and_from, lt-ltb}
 use Rattle.acl_model.specs.Ascii.{is_byte, are_bytes}

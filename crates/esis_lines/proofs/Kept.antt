@@ -6,7 +6,7 @@ use Rattle.esis_lines.specs.DocumentText.{document_lines, without_closing}
 use Rattle.esis_lines.specs.LineForms.{is_closing, is_passed_by}
 use Rattle.esis_lines.proofs.LineReadings.{passed_by-closing}
 
--- The line is of a document wherever it stands.
+-- The line is of a document wherever it is.
 abbrev pub is_kept : List ℕ → Bool
 is_kept l = not (is_passed_by l) && not (is_closing l)
 

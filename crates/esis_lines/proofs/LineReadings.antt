@@ -10,7 +10,7 @@ use Rattle.acl_model.specs.Values.{attribute_name, attribute_type}
 use Rattle.esis_lines.specs.declared.doc_fault.DocFault.{DocFault}
 use Rattle.esis_lines.specs.declared.doc_fault.DocFault.TheVariants.{BadLine, NameTooLong}
 use Rattle.esis_lines.specs.LineForms.{capital_c, capital_l, number_sign, question_mark, is_passed_by, is_closing}
-use Rattle.esis_lines.specs.Machine.{Line, line_of, with_name, with_attribute, with_nothing, fault_of_kind, says_closing}
+use Rattle.esis_lines.specs.LineMachine.{Line, line_of, with_name, with_attribute, with_nothing, fault_of_kind, says_closing}
 
 -- which of two values a choice is
 pub chosen : {A : Type 0} (b : Bool) (x y z : A) → (if b then x else y) ≡ z → ((b ≡ true) × (x ≡ z)) ⊎ ((b ≡ false) × (y ≡ z))
@@ -25,23 +25,23 @@ not_ok x e h = cc
 
 -- ---- the choices by the first byte, from the last one on
 
-abbrev pub behind_passed : ℕ → ℕ → List ℕ → Result Line DocFault
-behind_passed number kind rest = if nat_eq kind capital_c then with_nothing number rest else Err (fault_of_kind number kind)
+abbrev pub after_passed : ℕ → ℕ → List ℕ → Result Line DocFault
+after_passed number kind rest = if nat_eq kind capital_c then with_nothing number rest else Err (fault_of_kind number kind)
 
-abbrev pub behind_attribute : ℕ → ℕ → List ℕ → Result Line DocFault
-behind_attribute number kind rest =
-    if nat_eq kind question_mark || nat_eq kind capital_l || nat_eq kind number_sign then Ok Line.PassesBy else behind_passed number kind rest
+abbrev pub after_attribute : ℕ → ℕ → List ℕ → Result Line DocFault
+after_attribute number kind rest =
+    if nat_eq kind question_mark || nat_eq kind capital_l || nat_eq kind number_sign then Ok Line.PassesBy else after_passed number kind rest
 
-abbrev pub behind_end : ℕ → ℕ → List ℕ → Result Line DocFault
-behind_end number kind rest = if nat_eq kind capital_a then with_attribute number rest else behind_attribute number kind rest
+abbrev pub after_end : ℕ → ℕ → List ℕ → Result Line DocFault
+after_end number kind rest = if nat_eq kind capital_a then with_attribute number rest else after_attribute number kind rest
 
-abbrev pub behind_start : ℕ → ℕ → List ℕ → Result Line DocFault
-behind_start number kind rest = if nat_eq kind right_parenthesis then with_name number rest (Line.Ends rest) else behind_end number kind rest
+abbrev pub after_start : ℕ → ℕ → List ℕ → Result Line DocFault
+after_start number kind rest = if nat_eq kind right_parenthesis then with_name number rest (Line.Ends rest) else after_end number kind rest
 
-abbrev pub behind_text : ℕ → ℕ → List ℕ → Result Line DocFault
-behind_text number kind rest = if nat_eq kind left_parenthesis then with_name number rest (Line.Starts rest) else behind_start number kind rest
+abbrev pub after_text : ℕ → ℕ → List ℕ → Result Line DocFault
+after_text number kind rest = if nat_eq kind left_parenthesis then with_name number rest (Line.Starts rest) else after_start number kind rest
 
--- ---- what stands in a line that says this
+-- ---- what is in a line that says this
 
 unfoldable pub LineIs : List ℕ → Line → Type 0
 LineIs l (Line.Starts name) = (l ≡ left_parenthesis ∷ name) × (is_name name ≡ true)
@@ -68,9 +68,9 @@ unfolding LineIs
 closes_is number kind [] x is h = subst (λ (y : Line). LineIs (kind ∷ []) y) (ok_same Line.Closes x h) (first_is kind capital_c [] is)
 closes_is number kind (b ∷ rest) x is h = not_ok x (BadLine number) h
 
-passed_is : (number kind : ℕ) (rest : List ℕ) (x : Line) → behind_attribute number kind rest ≡ Ok x → LineIs (kind ∷ rest) x
+passed_is : (number kind : ℕ) (rest : List ℕ) (x : Line) → after_attribute number kind rest ≡ Ok x → LineIs (kind ∷ rest) x
 unfolding LineIs
-passed_is number kind rest x h = elim (chosen (nat_eq kind question_mark || nat_eq kind capital_l || nat_eq kind number_sign) (Ok Line.PassesBy) (behind_passed number kind rest) (Ok x) h) [
+passed_is number kind rest x h = elim (chosen (nat_eq kind question_mark || nat_eq kind capital_l || nat_eq kind number_sign) (Ok Line.PassesBy) (after_passed number kind rest) (Ok x) h) [
   | inl passed ↦ subst (λ (y : Line). LineIs (kind ∷ rest) y) (ok_same Line.PassesBy x passed.1) passed.0
   | inr other ↦ elim (chosen (nat_eq kind capital_c) (with_nothing number rest) (Err (fault_of_kind number kind)) (Ok x) other.1) [
     | inl closing ↦ closes_is number kind rest x closing.0 closing.1
@@ -78,9 +78,9 @@ passed_is number kind rest x h = elim (chosen (nat_eq kind question_mark || nat_
   ]
 ]
 
-attribute_is : (number kind : ℕ) (rest : List ℕ) (x : Line) → behind_end number kind rest ≡ Ok x → LineIs (kind ∷ rest) x
+attribute_is : (number kind : ℕ) (rest : List ℕ) (x : Line) → after_end number kind rest ≡ Ok x → LineIs (kind ∷ rest) x
 unfolding LineIs
-attribute_is number kind rest x h = elim (chosen (nat_eq kind capital_a) (with_attribute number rest) (behind_attribute number kind rest) (Ok x) h) [
+attribute_is number kind rest x h = elim (chosen (nat_eq kind capital_a) (with_attribute number rest) (after_attribute number kind rest) (Ok x) h) [
   | inl here ↦ elim (chosen (is_type (attribute_type rest)) (with_name number (attribute_name rest) (Line.Waits rest)) (Err (BadLine number)) (Ok x) here.1) [
     | inl typed ↦ let n = named_is number (attribute_name rest) (Line.Waits rest) x typed.1 in
         subst (λ (y : Line). LineIs (kind ∷ rest) y) n.1 (first_is kind capital_a rest here.0, n.0, typed.0)
@@ -89,17 +89,17 @@ attribute_is number kind rest x h = elim (chosen (nat_eq kind capital_a) (with_a
   | inr other ↦ passed_is number kind rest x other.1
 ]
 
-ends_is : (number kind : ℕ) (rest : List ℕ) (x : Line) → behind_start number kind rest ≡ Ok x → LineIs (kind ∷ rest) x
+ends_is : (number kind : ℕ) (rest : List ℕ) (x : Line) → after_start number kind rest ≡ Ok x → LineIs (kind ∷ rest) x
 unfolding LineIs
-ends_is number kind rest x h = elim (chosen (nat_eq kind right_parenthesis) (with_name number rest (Line.Ends rest)) (behind_end number kind rest) (Ok x) h) [
+ends_is number kind rest x h = elim (chosen (nat_eq kind right_parenthesis) (with_name number rest (Line.Ends rest)) (after_end number kind rest) (Ok x) h) [
   | inl here ↦ let n = named_is number rest (Line.Ends rest) x here.1 in
       subst (λ (y : Line). LineIs (kind ∷ rest) y) n.1 (first_is kind right_parenthesis rest here.0, n.0)
   | inr other ↦ attribute_is number kind rest x other.1
 ]
 
-starts_is : (number kind : ℕ) (rest : List ℕ) (x : Line) → behind_text number kind rest ≡ Ok x → LineIs (kind ∷ rest) x
+starts_is : (number kind : ℕ) (rest : List ℕ) (x : Line) → after_text number kind rest ≡ Ok x → LineIs (kind ∷ rest) x
 unfolding LineIs
-starts_is number kind rest x h = elim (chosen (nat_eq kind left_parenthesis) (with_name number rest (Line.Starts rest)) (behind_start number kind rest) (Ok x) h) [
+starts_is number kind rest x h = elim (chosen (nat_eq kind left_parenthesis) (with_name number rest (Line.Starts rest)) (after_start number kind rest) (Ok x) h) [
   | inl here ↦ let n = named_is number rest (Line.Starts rest) x here.1 in
       subst (λ (y : Line). LineIs (kind ∷ rest) y) n.1 (first_is kind left_parenthesis rest here.0, n.0)
   | inr other ↦ ends_is number kind rest x other.1
@@ -109,7 +109,7 @@ starts_is number kind rest x h = elim (chosen (nat_eq kind left_parenthesis) (wi
 pub line_is : (number : ℕ) (l : List ℕ) (x : Line) → line_of number l ≡ Ok x → LineIs l x
 unfolding LineIs
 line_is number [] x h = not_ok x (BadLine number) h
-line_is number (kind ∷ rest) x h = elim (chosen (nat_eq kind hyphen) (Ok (Line.Says rest)) (behind_text number kind rest) (Ok x) h) [
+line_is number (kind ∷ rest) x h = elim (chosen (nat_eq kind hyphen) (Ok (Line.Says rest)) (after_text number kind rest) (Ok x) h) [
   | inl here ↦ subst (λ (y : Line). LineIs (kind ∷ rest) y) (ok_same (Line.Says rest) x here.1) (first_is kind hyphen rest here.0)
   | inr other ↦ starts_is number kind rest x other.1
 ]
@@ -156,7 +156,7 @@ first_of_three kind false true x a b c h = inr (inl (eqb-true kind capital_l b))
 first_of_three kind false false true a b c h = inr (inr (eqb-true kind number_sign c))
 first_of_three kind false false false a b c h = cc
 
--- What holds of each line that begins with '?', 'L' or '#' holds of a line that is passed by.
+-- What is true of each line that begins with '?', 'L' or '#' is true of a line that is passed by.
 pub passed_kind : (P : List ℕ → Type 0) → ((rest : List ℕ) → P (question_mark ∷ rest)) → ((rest : List ℕ) → P (capital_l ∷ rest)) → ((rest : List ℕ) → P (number_sign ∷ rest)) → (l : List ℕ) → is_passed_by l ≡ true → P l
 passed_kind P a b c [] h = cc
 passed_kind P a b c (kind ∷ rest) h = elim (first_of_three kind (nat_eq kind question_mark) (nat_eq kind capital_l) (nat_eq kind number_sign) refl refl refl h) [

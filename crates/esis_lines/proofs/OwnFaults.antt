@@ -1,4 +1,4 @@
--- What a line is refused for by itself is what the first rows of the table say.
+-- A line is refused by itself as the first rows of the table of causes say.
 use Rattle.std.proofs.Common.{◌≡◌, ℕ, Bool, true, false, not, Option, Some, None, Result, Ok, Err, List, [], ◌∷◌, length, nat_eq, nat_le, nat_lt, ◌&&◌, ◌||◌, if◌then◌else◌, refl, sym, ap, subst, ◌∙◌, arith}
 use Rattle.std.proofs.lemmas.Bool.{ne_eqb, lt-ltb, le-ltb, leb-true, leb-false}
 use borrow.Author.Tests.{eqb-true}
@@ -9,7 +9,7 @@ use Rattle.acl_model.specs.Values.{attribute_name, attribute_type}
 use Rattle.esis_lines.specs.declared.doc_fault.DocFault.{DocFault}
 use Rattle.esis_lines.specs.declared.doc_fault.DocFault.TheVariants.{BadLine, Unsupported, NameTooLong}
 use Rattle.esis_lines.specs.LineForms.{capital_c, capital_l, number_sign, question_mark, first_byte, is_unsupported, is_unsupported_kind, is_of_form, has_long_name}
-use Rattle.esis_lines.specs.Machine.{Line, line_of}
+use Rattle.esis_lines.specs.LineMachine.{Line, line_of}
 
 -- the fault, where there is one
 abbrev pub fault_in : {A : Type 0} → Result A DocFault → Option DocFault

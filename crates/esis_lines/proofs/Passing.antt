@@ -1,4 +1,4 @@
--- Every document's lines are taken, whatever lines that are of no document stand between them.
+-- Every document's lines are taken, whatever lines of no document are between them.
 use Rattle.std.proofs.Common.{◌≡◌, ℕ, ◌+◌, ◌<◌, ◌≤◌, suc, Bool, true, false, not, Ok, List, [], ◌∷◌, ◌++◌, length, map, nat_eq, nat_le, ◌&&◌, refl, sym, ap, subst, ◌∙◌, arith, append_assoc, append-nil, length-append}
 use Rattle.std.specs.Cmp.{first_so, second_so}
 use Rattle.std.specs.List.{list_all, concat}
@@ -22,14 +22,15 @@ use Rattle.acl_model.specs.declared.document.Item.TheVariants.{Text, Child, roll
 use Rattle.acl_model.specs.declared.document.Item.TheOpen.{Item-F, Element-F}
 use Rattle.acl_model.specs.declared.document.Item.TheViews.{roll-Item, roll-Element}
 use Rattle.acl_model.specs.declared.document.Item.TheFolds.{ind-Element}
-use Rattle.esis_lines.specs.Machine.{Line, State, OpenElement, run, state_after, says_closing, element_of_open, state_with_element}
+use Rattle.esis_lines.specs.LineMachine.{Line, State, OpenElement, run, state_after, says_closing, element_of_open, state_with_element}
 use Rattle.esis_lines.proofs.Kept.{is_kept}
 use Rattle.esis_lines.proofs.LineReadings.{LineIs, line_said}
 use Rattle.esis_lines.proofs.Running.{run_taken}
 
 -- ---- what is read from a state on
 
--- From s on the bytes are read as the rest of the document, whatever the number of their first line, and each of their lines is of it.
+-- From s on the bytes are read as the rest of the document, whatever the number of their first line, and each of
+-- their lines is of it.
 pub record Reads (bytes : List ℕ) (s : State) (d : Doc) : Type 0 where
   pub run_is : (number : ℕ) → run number false (lines bytes) s ≡ Ok d
   pub kept : list_all is_kept (lines bytes) ≡ true
@@ -135,7 +136,7 @@ passes_attribute raw waiting around is fits =
     passes_line (State.Inside waiting around) (State.Inside (waiting ++ raw ∷ []) around) capital_a raw (lacks-kind capital_a raw refl (second_so (are_bytes raw) (lacks line_feed raw) within))
     (attribute_takes raw waiting around (first_so (is_name (attribute_name raw)) (is_type (attribute_type raw)) both) (second_so (is_name (attribute_name raw)) (is_type (attribute_type raw)) both) fits)
 
--- attributes wait one behind the other
+-- attributes wait one after the other
 passes_attributes : (raws waiting : List (List ℕ)) (around : List OpenElement) → list_all is_raw_attribute raws ≡ true → length waiting + length raws ≤ 65535 → Passes (State.Inside waiting around) (concat (map (line capital_a) raws)) (State.Inside (waiting ++ raws) around)
 passes_attributes [] waiting around all few = let same = append-nil waiting in rw same (passes_none (State.Inside waiting around))
 passes_attributes (raw ∷ raws) waiting around all few =
@@ -149,7 +150,7 @@ passes_attributes (raw ∷ raws) waiting around all few =
 
 -- ---- trees
 
--- an item stands behind those that came before it
+-- an item comes after those before it
 pub ItemPasses : Item → Type 0
 ItemPasses i = (name : List ℕ) (attributes : List (List ℕ)) (before : List Item) (around : List OpenElement) → item_well_formed is_name i ≡ true → height_of_item i + suc (length around) ≤ 255
     → Passes (inside name attributes before around) (item_text i) (inside name attributes (before ++ i ∷ []) around)
@@ -191,12 +192,12 @@ formed e well =
     let a : Bool = nat_le (length e.attributes) 65535 in
     let b : Bool = list_all is_raw_attribute e.attributes in
     let c : Bool = list_all (λ b. b) (map (item_well_formed is_name) e.items) in
-    let front = first_so (is_name e.name && a && b) c all in
-    let named = first_so (is_name e.name && a) b front in
+    let prefix = first_so (is_name e.name && a && b) c all in
+    let named = first_so (is_name e.name && a) b prefix in
     record {
       name = first_so (is_name e.name) a named;
       few = leb-true (length e.attributes) 65535 (second_so (is_name e.name) a named);
-      raw = second_so (is_name e.name && a) b front;
+      raw = second_so (is_name e.name && a) b prefix;
       items = second_so (is_name e.name && a && b) c all;
     }
 

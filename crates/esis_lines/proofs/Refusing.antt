@@ -1,4 +1,4 @@
--- The machine refuses by the table: between two lines it stands as the lines before leave it.
+-- The machine refuses by the table: between two lines its state is the one that the lines before it leave.
 use Rattle.std.proofs.Common.{◌≡◌, ℕ, ◌+◌, Bool, true, false, not, Option, Some, None, Result, Ok, Err, List, [], ◌∷◌, ◌++◌, length, map, nat_eq, nat_le, nat_lt, ◌&&◌, ◌||◌, if◌then◌else◌, refl, sym, ap, subst, ◌∙◌, inl, inr, arith, length-append}
 use Rattle.std.proofs.lemmas.List.{length-map}
 use Rattle.std.proofs.lemmas.Bool.{lt-ltb, lt-leb, le-leb, ltb-true, ltb-false}
@@ -10,8 +10,8 @@ use Rattle.acl_model.specs.declared.document.Item.TheVariants.{Text, Child}
 use Rattle.esis_lines.specs.declared.doc_fault.DocFault.{DocFault}
 use Rattle.esis_lines.specs.declared.doc_fault.DocFault.TheVariants.{BadLine, Unsupported, Unbalanced, NoRoot, SecondRoot, TooDeep, NameTooLong, TooManyAttributes}
 use Rattle.esis_lines.specs.LineForms.{capital_c, argument, first_byte, is_start, is_end, is_text, is_attribute, is_closing, is_passed_by, is_unsupported, is_of_form, has_long_name}
-use Rattle.esis_lines.specs.Machine.{Line, State, OpenElement, line_of, state_after, state_after_line, answer_from_step, document_of_state, run, element_of_open, state_with_element, with_item}
-use Rattle.esis_lines.specs.Refusals.{open_names, waiting_count, has_started, is_innermost, without_first, causes_at_end, first_that_fits, refusal}
+use Rattle.esis_lines.specs.LineMachine.{Line, State, OpenElement, line_of, state_after, state_after_line, answer_from_step, document_of_state, run, element_of_open, state_with_element, with_item}
+use Rattle.esis_lines.specs.LineRefusals.{open_names, waiting_count, has_started, is_innermost, without_first, causes_at_end, first_that_fits, refusal}
 use Rattle.esis_lines.proofs.LineReadings.{LineIs, line_is, chosen, ok_same, not_ok, passed_kind}
 use Rattle.esis_lines.proofs.OwnFaults.{fault_in, own_by, own_fault, own_faults}
 
@@ -20,7 +20,7 @@ abbrev pub or_else : Option DocFault → Option DocFault → Option DocFault
 or_else None other = other
 or_else (Some fault) other = Some fault
 
--- ---- the rows for what stands before, by what they ask
+-- ---- the rows of the table about the lines before, by what they check
 
 abbrev unbalanced_by : Bool → Bool → Bool → Bool → Bool → Bool → Bool
 unbalanced_by end text closing innermost inside wait = (end && not innermost) || (text && not inside) || ((end || text || closing) && wait) || (closing && inside)
@@ -45,18 +45,18 @@ own_then n kind false false g rest = refl
 own_then n kind false true true rest = refl
 own_then n kind false true false rest = refl
 
--- A line is refused by itself, or else by what stands before it.
+-- A line is refused by itself, or else by the lines before it.
 refusal_is : (before : List (List ℕ)) (l : List ℕ) → list_any is_closing before ≡ false → refusal before l ≡ or_else (own_fault (length before + 1) l) (later_at (length before + 1) (open_names before) (waiting_count before) (has_started before) l)
 unfolding own_fault later_at
 refusal_is before l yet = rw yet (own_then (length before + 1) (first_byte l) (is_unsupported l) (is_of_form l) (has_long_name l) (later_at (length before + 1) (open_names before) (waiting_count before) (has_started before) l))
 
--- ---- how the machine stands
+-- ---- the state of the machine
 
 abbrev name_of : OpenElement → List ℕ
 name_of o = o.name
 
--- the open names and the number of waiting attributes are those of the machine, and it is past the root or before it as an element has
--- started
+-- the open names and the number of waiting attributes are those of the machine, and it is past the root or before it
+-- as an element has started
 abbrev pub Stands : State → List (List ℕ) → Type 0
 Stands (State.Inside waiting opened) before = (open_names before ≡ map name_of opened) × (waiting_count before ≡ length waiting) × (has_started before ≡ nat_lt 0 (length opened))
 Stands (State.After root) before = (open_names before ≡ []) × (waiting_count before ≡ 0) × (has_started before ≡ true)
@@ -70,7 +70,7 @@ deep_is n k = elim (nat_lt k n) as (λ (v : Bool). nat_lt k n ≡ v → nat_le n
   | false ↦ λ is. le-leb n k (ltb-false k n is)
 ] refl
 
--- ---- what stands before refuses a line as the machine does
+-- ---- the lines before a line refuse it as the machine does
 
 choice_fault : (b : Bool) (next : State) (fault : DocFault) → fault_in (if b then Ok next else Err fault) ≡ (if not b then Some fault else None)
 choice_fault true next fault = refl
@@ -161,7 +161,7 @@ inside_fault n waiting opened l (Line.Says bytes) is = ap (later_at n (map name_
 inside_fault n waiting opened l Line.PassesBy is = passed_later n (length waiting) (map name_of opened) (nat_lt 0 (length opened)) l is
 inside_fault n waiting opened l Line.Closes is = ap (later_at n (map name_of opened) (length waiting) (nat_lt 0 (length opened))) is ∙ closing_later n (length waiting) (map name_of opened) (nat_lt 0 (length opened)) ∙ closes_fault n waiting opened
 
--- behind the root
+-- after the root
 after_fault : (n : ℕ) (root : Element) (l : List ℕ) (x : Line) → LineIs l x → later_at n [] 0 true l ≡ fault_in (state_after n (State.After root) x)
 unfolding LineIs later_at
 after_fault n root l (Line.Starts name) is = ap (later_at n [] 0 true) is.0
@@ -175,7 +175,7 @@ same_place : (n : ℕ) (l : List ℕ) (names other : List (List ℕ)) (wait many
 same_place n l names other wait many started begun a b c =
     ap (λ (k : List (List ℕ)). later_at n k wait started l) a ∙ ap (λ (k : ℕ). later_at n other k started l) b ∙ ap (λ (k : Bool). later_at n other many k l) c
 
--- A line that says something is refused by what stands before it as by the machine.
+-- A line that has a meaning is refused by the lines before it as by the machine.
 later_faults : (n : ℕ) (s : State) (before : List (List ℕ)) (l : List ℕ) (x : Line) → Stands s before → LineIs l x → later_at n (open_names before) (waiting_count before) (has_started before) l ≡ fault_in (state_after n s x)
 later_faults n (State.Inside waiting opened) before l x stands is =
     same_place n l (open_names before) (map name_of opened) (waiting_count before) (length waiting) (has_started before) (nat_lt 0 (length opened)) stands.0 stands.1 stands.2
@@ -184,7 +184,7 @@ later_faults n (State.After root) before l x stands is =
     same_place n l (open_names before) [] (waiting_count before) 0 (has_started before) true stands.0 stands.1 stands.2
     ∙ after_fault n root l x is
 
--- ---- a line that is taken leaves the machine as it leaves what stands before
+-- ---- a line that is taken changes the machine's state as it changes what the lines before it leave
 
 passed_stands : (s : State) (before : List (List ℕ)) (l : List ℕ) → is_passed_by l ≡ true → Stands s before → Stands s (l ∷ before)
 passed_stands (State.Inside waiting opened) before l is stands = passed_kind (λ k. Stands (State.Inside waiting opened) (k ∷ before)) (λ rest. stands) (λ rest. stands) (λ rest. stands) l is
@@ -246,7 +246,7 @@ stands_after n (State.After root) next before l Line.Closes is took stands =
     subst (λ (k : List ℕ). Stands next (k ∷ before)) (sym is)
     (subst (λ (t : State). Stands t ((capital_c ∷ []) ∷ before)) (ok_same (State.After root) next took) (closing_stands (State.After root) before stands))
 
--- ---- behind the last line
+-- ---- after the last line
 
 at_end_by : ℕ → Bool → Bool → Bool → Option DocFault
 at_end_by n inside wait started = if inside || wait then Some (Unbalanced n) else (if not started then Some NoRoot else None)
@@ -272,7 +272,7 @@ end_faults (State.After root) before stands = end_is (length before + 1) (open_n
 
 -- ---- all lines
 
--- the first refusal of these lines behind those before them
+-- the first refusal of these lines after those before them
 abbrev pub first_refusal : List (List ℕ) → List (List ℕ) → Option DocFault
 first_refusal before [] = first_that_fits (causes_at_end before)
 first_refusal before (l ∷ ls) = or_else (refusal before l) (first_refusal (l ∷ before) ls)

@@ -5,7 +5,7 @@ use Rattle.acl_model.specs.declared.document.Doc.{Doc}
 use Rattle.esis_lines.specs.declared.doc_fault.DocFault.{DocFault}
 use Rattle.esis_lines.specs.declared.doc_fault.DocFault.TheVariants.{Unbalanced, TooDeep, TooManyAttributes}
 use Rattle.esis_lines.specs.LineForms.{is_closing}
-use Rattle.esis_lines.specs.Machine.{State, Line, line_of, run, state_after, state_after_line, answer_from_step, says_closing}
+use Rattle.esis_lines.specs.LineMachine.{State, Line, line_of, run, state_after, state_after_line, answer_from_step, says_closing}
 use Rattle.esis_lines.proofs.LineReadings.{not_ok, closing_is, line_is, line_said}
 
 -- the run over a line that says something, from the state that it leaves

@@ -1,4 +1,4 @@
--- One cut at the first space gives what stands before and behind it.
+-- One cut at the first space gives what comes before and after it.
 use Rattle.std.proofs.Common.{◌≡◌, ℕ, ◌+◌, suc, Bool, true, false, not, Option, Some, None, List, [], ◌∷◌, take, drop, if◌then◌else◌, refl, ap, sym, ◌∙◌, arith}
 use Rattle.std.specs.List.{before_first, after_first, prefix_len}
 use Rattle.std.specs.Option.{option_map}
@@ -44,21 +44,21 @@ parts_are (b ∷ bytes) = elim (is_space b) as (λ (v : Bool). parts_of (b ∷ b
 cut_is : (bytes : List ℕ) (o : Option (List ℕ × List ℕ)) → cut_at space bytes ≡ o → parts_of bytes o ≡ parts_at bytes (before_space bytes)
 cut_is bytes o is = ap (parts_of bytes) (sym is) ∙ parts_are bytes
 
-pub before_of_cut : (bytes before behind : List ℕ) → cut_at 32 bytes ≡ Some (before, behind) → before ≡ before_first is_space bytes
+pub before_of_cut : (bytes before after : List ℕ) → cut_at 32 bytes ≡ Some (before, after) → before ≡ before_first is_space bytes
 unfolding parts_of parts_at before_space
-before_of_cut bytes before behind is = ap (λ (p : List ℕ × List ℕ). p.0) (cut_is bytes (Some (before, behind)) is)
+before_of_cut bytes before after is = ap (λ (p : List ℕ × List ℕ). p.0) (cut_is bytes (Some (before, after)) is)
 
-pub behind_of_cut : (bytes before behind : List ℕ) → cut_at 32 bytes ≡ Some (before, behind) → behind ≡ after_first is_space bytes
+pub after_of_cut : (bytes before after : List ℕ) → cut_at 32 bytes ≡ Some (before, after) → after ≡ after_first is_space bytes
 unfolding parts_of parts_at before_space
-behind_of_cut bytes before behind is = ap (λ (p : List ℕ × List ℕ). p.1) (cut_is bytes (Some (before, behind)) is)
+after_of_cut bytes before after is = ap (λ (p : List ℕ × List ℕ). p.1) (cut_is bytes (Some (before, after)) is)
 
--- Without a cut all stands before, and nothing behind.
+-- Where there is no space, all bytes come before it, and none after.
 pub before_without_cut : (bytes : List ℕ) → cut_at 32 bytes ≡ None → bytes ≡ before_first is_space bytes
 unfolding parts_of parts_at before_space
 before_without_cut bytes none = ap (λ (p : List ℕ × List ℕ). p.0) (cut_is bytes None none)
 
-pub behind_without_cut : (bytes : List ℕ) → cut_at 32 bytes ≡ None → [] ≡ after_first is_space bytes
+pub after_without_cut : (bytes : List ℕ) → cut_at 32 bytes ≡ None → [] ≡ after_first is_space bytes
 unfolding parts_of parts_at before_space
-behind_without_cut bytes none = ap (λ (p : List ℕ × List ℕ). p.1) (cut_is bytes None none)
+after_without_cut bytes none = ap (λ (p : List ℕ × List ℕ). p.1) (cut_is bytes None none)
 
-pub ruleset space_laws = (before_of_cut, behind_of_cut, before_without_cut, behind_without_cut)
+pub ruleset space_laws = (before_of_cut, after_of_cut, before_without_cut, after_without_cut)

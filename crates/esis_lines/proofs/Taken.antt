@@ -1,5 +1,5 @@
--- What is taken is a document's text: between two lines, the lines so far that are of a document are those of the open elements and
--- of the attributes that wait.
+-- What is taken is a document's text: between two lines, the lines so far that are of a document are those of the
+-- open elements and of the attributes that wait.
 use Rattle.std.proofs.Common.{◌≡◌, ℕ, ◌+◌, ◌-◌, ◌<◌, ◌≤◌, suc, Bool, true, false, not, Result, Ok, Err, List, [], ◌∷◌, ◌++◌, length, map, nat_eq, nat_le, nat_lt, ◌&&◌, if◌then◌else◌, refl, sym, ap, subst, ◌∙◌, inl, inr, arith, append_assoc, append-nil, length-append}
 use Rattle.std.specs.Cmp.{first_so, second_so}
 use Rattle.std.specs.List.{list_all, concat, filter}
@@ -25,7 +25,7 @@ use Rattle.esis_lines.specs.declared.doc_fault.DocFault.{DocFault}
 use Rattle.esis_lines.specs.declared.doc_fault.DocFault.TheVariants.{BadLine, NoRoot, SecondRoot, TooDeep, TooManyAttributes, Unbalanced}
 use Rattle.esis_lines.specs.DocumentText.{IsDocumentText, document_lines, without_closing}
 use Rattle.esis_lines.specs.LineForms.{is_closing, is_passed_by}
-use Rattle.esis_lines.specs.Machine.{State, Line, OpenElement, state_after, run, element_of_open, state_with_element, with_item, document_of_state, says_closing, read_doc_of}
+use Rattle.esis_lines.specs.LineMachine.{State, Line, OpenElement, state_after, run, element_of_open, state_with_element, with_item, document_of_state, says_closing, read_doc_of}
 use Rattle.esis_lines.proofs.Kept.{is_kept, kept_closing, document_lines-passed, document_lines-kept, document_lines-closing}
 use Rattle.esis_lines.proofs.LineReadings.{LineIs, line_is, chosen, ok_same, not_ok, closing_is, passed_by-closing}
 use Rattle.esis_lines.proofs.Running.{Goes, goes}
@@ -96,12 +96,12 @@ concat-push f (y ∷ ys) x = ap (λ t. f y ++ t) (concat-push f ys x) ∙ sym (a
 unended_more : (i : Item) (o : OpenElement) → unended (with_item i o) ≡ unended o ++ item_text i
 unfolding unended
 unended_more i o =
-    let front : List ℕ = attribute_text o.attributes in
+    let prefix : List ℕ = attribute_text o.attributes in
     let start : List ℕ = line left_parenthesis o.name in
     let items : List ℕ = concat (map item_text o.items) in
-    ap (λ t. front ++ (start ++ t)) (concat-push item_text o.items i)
-    ∙ ap (λ t. front ++ t) (sym (append_assoc start items (item_text i)))
-    ∙ sym (append_assoc front (start ++ items) (item_text i))
+    ap (λ t. prefix ++ (start ++ t)) (concat-push item_text o.items i)
+    ∙ ap (λ t. prefix ++ t) (sym (append_assoc start items (item_text i)))
+    ∙ sym (append_assoc prefix (start ++ items) (item_text i))
 
 all_push : (f : Item → Bool) (is : List Item) (i : Item) → list_all (λ b. b) (map f is) ≡ true → f i ≡ true → list_all (λ b. b) (map f (is ++ i ∷ [])) ≡ true
 all_push f [] i h g = rw g refl
@@ -273,7 +273,7 @@ run_ends number (State.After root) d h sound =
     let same : Doc = record { root = root } in
     subst (λ (e : Doc). IsRead e (element_text root ++ [])) (ok_same same d h) (sound, sym (append-nil (element_text root)))
 
--- behind a closing line there is none
+-- after a closing line there is none
 run_closed : (number : ℕ) (l : List ℕ) (ls : List (List ℕ)) (s : State) (d : Doc) → is_closing l ≡ true → run number true ls s ≡ Ok d → IsSound s → IsRead d (so_far s ++ concat (map as_line (document_lines (l ∷ ls))))
 run_closed number l [] s d is h sound = let same = document_lines-closing l is in rw same (run_ends number s d h sound)
 run_closed number l (k ∷ ks) s d is h sound = not_ok d (BadLine number) h

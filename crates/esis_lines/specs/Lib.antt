@@ -1,7 +1,7 @@
-pub mod Answers
-pub mod CodeValues
+pub mod DocumentAnswers
 pub mod DocumentText
 pub mod Input
 pub mod LineForms
-pub mod Machine
-pub mod Refusals
+pub mod LineMachine
+pub mod LineRefusals
+pub mod inside

@@ -1,5 +1,5 @@
--- One line of a document's lines by itself: what its first byte tells, and which form the rest has. This project's profile of
--- the ESIS line form.
+-- A line by itself: what its first byte means, and which form the rest has. This project's profile of the ESIS line
+-- form.
 use Rattle.std.specs.Prelude.{ℕ, Bool, false, nat_eq, nat_lt, ◌&&◌, ◌||◌, List, [], ◌∷◌, length, codes, if◌then◌else◌}
 use Rattle.std.specs.List.{list_any}
 use Rattle.acl_model.specs.Limits.{most_name_bytes}
@@ -8,7 +8,7 @@ use Rattle.acl_model.specs.Document.{is_type}
 use Rattle.acl_model.specs.Names.{is_spelled_as_name}
 use Rattle.acl_model.specs.Values.{attribute_name, attribute_type}
 
--- '#', which begins a line of an application's own
+-- '#', which begins a line that an application defines
 abbrev pub number_sign : ℕ
 number_sign = 35
 
@@ -20,7 +20,7 @@ question_mark = 63
 abbrev pub capital_c : ℕ
 capital_c = 67
 
--- 'L', which begins a line that tells a place in the source
+-- 'L', which begins a line with a location in the source of the document
 abbrev pub capital_l : ℕ
 capital_l = 76
 
@@ -34,7 +34,7 @@ abbrev pub first_byte : List ℕ → ℕ
 first_byte [] = 0
 first_byte (b ∷ rest) = b
 
--- what stands behind the first byte of a line
+-- what follows the first byte of a line
 abbrev pub argument : List ℕ → List ℕ
 argument [] = []
 argument (b ∷ rest) = rest
@@ -55,7 +55,7 @@ is_text l = begins hyphen l
 abbrev pub is_attribute : List ℕ → Bool
 is_attribute l = begins capital_a l
 
--- A line that begins with '?', 'L' or '#' is passed by.
+-- A line that begins with '?', 'L' or '#' is *passed by*: it belongs to no document.
 abbrev pub is_passed_by : List ℕ → Bool
 is_passed_by l = begins question_mark l || begins capital_l l || begins number_sign l
 
@@ -63,7 +63,7 @@ is_passed_by l = begins question_mark l || begins capital_l l || begins number_s
 abbrev pub is_closing : List ℕ → Bool
 is_closing l = begins capital_c l && nat_eq (length (argument l)) 0
 
--- the first bytes of lines that other settings of `nsgmls` write, and that this profile has no use for
+-- the first bytes of lines that `nsgmls` writes under other settings, and that this profile doesn't support
 abbrev pub unsupported_kinds : List ℕ
 unsupported_kinds = codes "&DaNEISTspf{}ieo"
 
@@ -76,12 +76,12 @@ abbrev pub is_unsupported : List ℕ → Bool
 is_unsupported [] = false
 is_unsupported (b ∷ rest) = is_unsupported_kind b
 
--- A raw attribute begins with a name, the number of its bytes left aside, and has a type.
+-- A raw attribute begins with a name of any length, and has a type.
 abbrev pub is_spelled_as_attribute : List ℕ → Bool
 is_spelled_as_attribute raw = is_spelled_as_name (attribute_name raw) && is_type (attribute_type raw)
 
--- the form of a line, the number of the bytes of a name left aside: a '(' or ')' and a name, a '-' and any bytes, an 'A' and a raw
--- attribute, a '?', 'L' or '#' and any bytes, or 'C' alone
+-- The line has one of these forms, where a name may have any length: a '(' or ')' and a name, a '-' and any bytes, an
+-- 'A' and a raw attribute, a '?', 'L' or '#' and any bytes, or 'C' alone.
 abbrev pub is_of_form : List ℕ → Bool
 is_of_form l =
     ((is_start l || is_end l) && is_spelled_as_name (argument l))
@@ -90,11 +90,11 @@ is_of_form l =
     || is_passed_by l
     || is_closing l
 
--- the name in a line: all behind the first byte, or in an attribute what stands before the first space
+-- the name in a line: all bytes after the first, or in an attribute those of them before the first space
 abbrev pub name_in : List ℕ → List ℕ
 name_in l = if is_attribute l then attribute_name (argument l) else argument l
 
--- A line that has a name has one of more than 255 bytes.
+-- The line is of a kind that has a name, and the name has more than 255 bytes.
 abbrev pub has_long_name : List ℕ → Bool
 has_long_name l =
     (is_start l || is_end l || is_attribute l) && nat_lt most_name_bytes (length (name_in l))

@@ -1,10 +1,10 @@
-//! Lists that grow from one element on.
+//! Appends to a list.
 
 ghost use Rattle.std.specs.Prelude.{◌≡◌, ◌++◌, ◌∷◌, [], OnOk};
 
 use std::alloc::{AllocError, Global};
 
-/// Puts an element behind the others. The first one takes room for itself alone, as most lists of a document have no other.
+/// Appends an element. The first one allocates room for one element only, as most lists in a document have just one.
 pub fn append<T: Drop>(alloc: Global, list: &mut Vec<T>, element: T) -> Result<(), AllocError>
     ensures { OnOk result (list.new.items ≡ list.old.items ++ element ∷ []) }
 {

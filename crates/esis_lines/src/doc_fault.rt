@@ -1,4 +1,4 @@
-//! What can stand between a source and a document. Each answer has one cause. Lines are numbered from 1.
+//! Why a source is not read as a document. Each answer has one cause. Lines are numbered from 1.
 
 ghost use Rattle.std.specs.Prelude.{◌≡◌};
 ghost use Rattle.esis_lines.specs.declared.doc_fault.DocFault.TheVariants.{NoMemory};
@@ -6,24 +6,24 @@ ghost use Rattle.esis_lines.specs.declared.doc_fault.DocFault.TheVariants.{NoMem
 use std::alloc::{AllocError, AllocFailed};
 use thiserror::Error;
 
-/// Why a source gave no document. Of the lines the first that is refused is named; of the causes that meet in it,
-/// `specs/Refusals.antt` says which.
+/// Why a source is not read as a document. The line is the first that is refused. Where it has two causes,
+/// `specs/LineRefusals.antt` says which one is the answer.
 #[derive(Debug, Drop, Error)]
 pub enum DocFault {
-    /// The line has no form that a line may have, or stands behind the line `C`.
+    /// The line has no form that a line may have, or it comes after the line `C`.
     #[error("line {line}: bad form")]
     BadLine { line: u32 },
-    /// The line begins with a byte that this profile has no use for.
+    /// The line begins with a byte that this profile doesn't support.
     #[error("line {line}: kind {kind} is unsupported")]
     Unsupported { line: u32, kind: u8 },
-    /// The line does not fit the elements that are open or the attributes that wait. It is one more than the number of
-    /// lines where they are open or wait behind the last one.
+    /// The line does not fit the open elements or the waiting attributes. Where an element is open or an attribute
+    /// waits after the last line, `line` is the number of lines plus one.
     #[error("line {line}: unbalanced")]
     Unbalanced { line: u32 },
     /// No element was started.
     #[error("no root")]
     NoRoot,
-    /// An element or an attribute behind the end of the root.
+    /// An element or an attribute after the end of the root.
     #[error("line {line}: second root")]
     SecondRoot { line: u32 },
     /// An element inside 255 others.
@@ -38,10 +38,10 @@ pub enum DocFault {
     /// The source failed.
     #[error("the source failed")]
     SourceFault,
-    /// An attribute beside 65,535 others.
+    /// One attribute more than 65,535 in one element.
     #[error("line {line}: too many attributes")]
     TooManyAttributes { line: u32 },
-    /// There was no memory for the bytes or for the document.
+    /// Out of memory.
     #[error("no memory")]
     NoMemory,
 }

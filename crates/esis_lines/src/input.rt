@@ -1,5 +1,4 @@
-//! Reads a source to its end into memory, up to a limit. The bytes taken and the bytes to come are
-//! always the bytes that were to come at the start.
+//! Reads a source to its end into memory, up to a limit.
 ghost use Rattle.std.specs.Prelude.{◌≡◌, ◌≤◌, ◌+◌, true, is_some, length, IfOk, OnOk, IfErr};
 ghost use Rattle.std.specs.Bool.{OnTrue};
 ghost use Rattle.std.specs.Io.KnownBytes.{Consumes, IsAtEnd};
@@ -18,6 +17,7 @@ pub enum ReadAllFault {
     TooLong { limit: u32 },
     /// The source failed.
     Failed,
+    /// Out of memory.
     NoMemory,
 }
 
@@ -43,12 +43,11 @@ impl From<acl_outside::Failed> for ReadAllFault {
     }
 }
 
-// The most bytes that are asked for at once.
+/// The most bytes of one read.
 const CHUNK: usize = 8192;
 
-/// All bytes of a source, which are at most `limit`. Where there are more, one more than the limit is
-/// taken from the source, and no further read is made, so a source that fails has given no more than `limit`. No
-/// fault is tried again.
+/// All bytes of a source, at most `limit`. Where there are more, one more than the limit is taken from the source,
+/// and no further read is made. So a source that fails has given at most `limit` bytes. No failed read is tried again.
 pub fn read_all<Q: Source>(alloc: Global, source: &mut Q, limit: u32) -> Result<Bytes, ReadAllFault>
     ensures whole { IfOk result (λ bytes. Consumes (Q.left source.old) (Q.left source.new) bytes) }
     ensures end { OnOk result (IsAtEnd (Q.left source.new)) }
@@ -57,7 +56,7 @@ pub fn read_all<Q: Source>(alloc: Global, source: &mut Q, limit: u32) -> Result<
     ensures too_long { IfErr result (λ fault.
         TookTooMany fault limit (Q.left source.old) (Q.left source.new)) }
 
-    // On every answer, want of memory and a fault among them.
+    // On every answer, including out of memory and a failure.
     ensures taken { TakesAtMost (limit + 1) (Q.left source.old) (Q.left source.new) }
     ensures failed_within { OnTrue (is_failure result)
         (TakesAtMost limit (Q.left source.old) (Q.left source.new)) }
@@ -79,7 +78,7 @@ pub fn read_all<Q: Source>(alloc: Global, source: &mut Q, limit: u32) -> Result<
     Err(ReadAllFault::TooLong { limit })
 }
 
-/// What a `Vec` of `u8` holds, which are bytes.
+/// The bytes of a `Vec` of `u8`, all below 256.
 #[tactic(auto, using(crate::proofs::Fitting::fitting))]
 fn bytes_of(bytes: Vec<u8>) -> Bytes
     ensures same { result ≡ bytes.items }

@@ -1,5 +1,5 @@
-//! Documents as lines: this project's profile of the ESIS line form of `nsgmls`. A source is read whole,
-//! its bytes are read as a document, and a document is written line by line.
+//! Reads and writes documents as lines, in this project's profile of the ESIS line form of `nsgmls`. A source is read
+//! whole, and then its bytes are read as a document.
 #![tactic(auto)]
 
 mod appending;

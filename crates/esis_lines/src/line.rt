@@ -1,4 +1,4 @@
-//! What one line says by itself. Its first byte tells the kind, and the rest is a name, a text or an attribute.
+//! The meaning of one line by itself. Its first byte is its kind, and the rest is a name, a text or an attribute.
 
 ghost use Rattle.std.specs.Prelude.{◌≡◌};
 ghost use Rattle.std.specs.Char.{is_ascii_uppercase};
@@ -7,14 +7,14 @@ ghost use Rattle.acl_model.specs.Document.{is_type};
 ghost use Rattle.acl_model.specs.Names.{continues_name, is_spelled_as_name};
 ghost use Rattle.acl_model.specs.Values.{is_space};
 ghost use Rattle.esis_lines.specs.LineForms.{is_unsupported_kind};
-ghost use Rattle.esis_lines.specs.Machine.{line_of, with_name, with_attribute, fault_of_kind, says_closing};
-ghost use Rattle.esis_lines.specs.CodeValues.{line_or_fault, line_value};
+ghost use Rattle.esis_lines.specs.LineMachine.{line_of, with_name, with_attribute, fault_of_kind, says_closing};
+ghost use Rattle.esis_lines.specs.inside.CodeValues.{line_or_fault, line_value};
 
 use crate::doc_fault::DocFault;
 use acl_model::limits::MOST_NAME_BYTES;
 use acl_model::{cut, may_begin_name, may_continue_name};
 
-/// The first bytes of lines that this profile has no use for.
+/// The first bytes of lines that this profile doesn't support.
 const UNSUPPORTED: &[u8] = b"&DaNEISTspf{}ieo";
 
 /// A line that is not refused by itself.
@@ -28,9 +28,9 @@ pub enum Line<'a> {
     Text(&'a [u8]),
     /// An attribute of the next element that starts.
     Attribute(&'a [u8]),
-    /// Nothing that is of a document.
+    /// Nothing that belongs to a document.
     PassedBy,
-    /// All lines were written.
+    /// The end of the lines.
     Closing,
 }
 
@@ -43,14 +43,14 @@ impl Line<'_> {
     }
 }
 
-/// Whether each byte may stand in a name behind the first.
+/// Whether each byte may be in a name after its first byte.
 fn all_may_continue(bytes: &[u8]) -> bool
     ensures { result ≡ list_all continues_name bytes.now }
 {
     bytes.iter().all(|byte| may_continue_name(*byte))
 }
 
-/// Whether the bytes have the form of a name, their number left aside.
+/// Whether the bytes have the form of a name, of any length.
 fn is_spelled(bytes: &[u8]) -> bool
     ensures { result ≡ is_spelled_as_name bytes.now }
 {
@@ -60,14 +60,14 @@ fn is_spelled(bytes: &[u8]) -> bool
     }
 }
 
-/// What stands before and behind the first space: all and nothing, where there is none.
+/// What comes before and after the first space. Where there is none, all bytes come before it.
 #[tactic(auto, using(crate::proofs::Spaces::space_laws))]
 fn at_space(bytes: &[u8]) -> (&[u8], &[u8])
     ensures before { result.0.now ≡ before_first is_space bytes.now }
-    ensures behind { result.1.now ≡ after_first is_space bytes.now }
+    ensures after { result.1.now ≡ after_first is_space bytes.now }
 {
     match cut(bytes, b' ') {
-        Some((before, behind)) => (before, behind),
+        Some((before, after)) => (before, after),
         None => (bytes, &[]),
     }
 }
@@ -89,7 +89,7 @@ fn is_a_type(bytes: &[u8]) -> bool
     }
 }
 
-/// A line of this name.
+/// The line, where its name is of the right form and has at most 255 bytes.
 fn named<'a>(name: &[u8], number: u32, line: Line<'a>) -> Result<Line<'a>, DocFault>
     ensures { line_or_fault result ≡ with_name number name.now (line_value line.entry) }
 {
@@ -106,15 +106,15 @@ fn named<'a>(name: &[u8], number: u32, line: Line<'a>) -> Result<Line<'a>, DocFa
 fn attribute(raw: &[u8], number: u32) -> Result<Line<'_>, DocFault>
     ensures { line_or_fault result ≡ with_attribute number raw.now }
 {
-    let (name, behind) = at_space(raw);
-    let (kind, _value) = at_space(behind);
+    let (name, after) = at_space(raw);
+    let (kind, _value) = at_space(after);
     if !is_a_type(kind) {
         return Err(DocFault::BadLine { line: number });
     }
     named(name, number, Line::Attribute(raw))
 }
 
-/// Whether lines that begin with this byte are refused by name.
+/// Whether lines that begin with this byte are refused as unsupported.
 #[tactic(auto, unfolding(crate::specs::LineForms::is_unsupported_kind))]
 fn is_unsupported(kind: u8) -> bool
     ensures { result ≡ is_unsupported_kind kind }
@@ -122,7 +122,7 @@ fn is_unsupported(kind: u8) -> bool
     UNSUPPORTED.contains(&kind)
 }
 
-/// The fault of a line of another first byte than those that are read.
+/// The fault of a line whose first byte is none of those that are read.
 fn fault_of_kind(kind: u8, number: u32) -> DocFault
     ensures { result ≡ fault_of_kind number kind }
 {
@@ -132,7 +132,7 @@ fn fault_of_kind(kind: u8, number: u32) -> DocFault
     DocFault::BadLine { line: number }
 }
 
-/// Reads the line of this number, which is without its line feed.
+/// Reads the line with this number, given without its line feed.
 pub fn classify(line: &[u8], number: u32) -> Result<Line<'_>, DocFault>
     ensures { line_or_fault result ≡ line_of number line.now }
 {

@@ -2,7 +2,7 @@
 
 ghost use Rattle.std.specs.Prelude.{◌≡◌, ◌++◌, ◌∷◌, [], IfOk, OnOk};
 ghost use Rattle.acl_model.specs.declared.document.Element.{Element};
-ghost use Rattle.esis_lines.specs.Machine.{OpenElement, element_of_open, with_item};
+ghost use Rattle.esis_lines.specs.LineMachine.{OpenElement, element_of_open, with_item};
 
 use crate::appending::append;
 use acl_model::{Bytes, Element, Item, Name, Sequence};
@@ -10,7 +10,7 @@ use sqlite_items::Items;
 use std::alloc::{AllocError, Global};
 use std::marker::Model;
 
-/// The name and the attributes of an open element, and what came inside it so far.
+/// The name and the attributes of an open element, and its items so far.
 #[derive(Drop)]
 pub struct OpenElement {
     name: Name,
@@ -19,7 +19,7 @@ pub struct OpenElement {
 }
 
 impl Model for OpenElement {
-    ghost use Rattle.esis_lines.specs.Machine.{OpenElement as OpenElementValue};
+    ghost use Rattle.esis_lines.specs.LineMachine.{OpenElement as OpenElementValue};
     ghost use Rattle.std.specs.Coded.{codes};
     ghost use Rattle.acl_model.specs.contracts.document.Item as item;
 
@@ -48,21 +48,21 @@ impl OpenElement {
         })
     }
 
-    /// Its name.
+    /// The name of the element.
     pub fn name(&self) -> &[u8]
         ensures { result.now ≡ self.now.name }
     {
         self.name.as_slice()
     }
 
-    /// Takes one more item.
+    /// Adds an item at the end.
     pub fn push(&mut self, alloc: Global, item: Item) -> Result<(), AllocError>
         ensures { OnOk result (self.new ≡ with_item item self.old) }
     {
         append(alloc, &mut self.items, item)
     }
 
-    /// The whole element.
+    /// Ends the element and returns it.
     pub fn close(self) -> Element
         ensures { result ≡ element_of_open self }
     {

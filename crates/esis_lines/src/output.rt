@@ -1,15 +1,14 @@
-//! Writes a document as its lines. After each write, what the sink got and what is still to come is the
-//! document's text.
+//! Writes a document as its lines.
 ghost use Rattle.std.specs.Prelude.{map};
 ghost use Rattle.std.specs.List.{concat};
 ghost use Rattle.acl_model.specs.Text.{text, element_text, item_text};
-ghost use Rattle.acl_outside.specs.Writing.{Writes};
+ghost use Rattle.acl_outside.specs.WrittenText.{Writes};
 
 use acl_model::{Doc, Element, Item};
 use acl_outside::{Failed, Sink};
 use line_writer::{write_attributes_and_start, write_end, write_text};
 
-/// Writes the lines of a document. Where the sink fails, a front part of them was written, and nothing
+/// Writes the lines of a document. Where the sink fails, a prefix of the text was written, and nothing is written
 /// after the failure.
 pub fn write_doc<K: Sink>(doc: &Doc, sink: &mut K) -> Result<(), Failed>
     ensures written { Writes K.written K.missed K.settled K.faults

@@ -1,9 +1,10 @@
-//! A machine of one step a line. It stands inside the open elements, or after the end of the root.
+//! The state machine that reads a document, with one step for each line. It is inside the open elements, or after the
+//! end of the root. An attribute *waits* for the next start of an element.
 
 ghost use Rattle.std.specs.Prelude.{◌≡◌, [], reverse};
-ghost use Rattle.esis_lines.specs.Answers.{ButForMemory};
-ghost use Rattle.esis_lines.specs.Machine.{State, document_of_state, state_after, state_after_attribute, state_after_closing, state_after_end, state_after_start, state_after_text, state_with_element};
-ghost use Rattle.esis_lines.specs.CodeValues.{line_value, placed, reached};
+ghost use Rattle.esis_lines.specs.DocumentAnswers.{ButForMemory};
+ghost use Rattle.esis_lines.specs.LineMachine.{State, document_of_state, state_after, state_after_attribute, state_after_closing, state_after_end, state_after_start, state_after_text, state_with_element};
+ghost use Rattle.esis_lines.specs.inside.CodeValues.{line_value, placed, reached};
 
 use crate::appending::append;
 use crate::doc_fault::DocFault;
@@ -19,19 +20,19 @@ use std::mem::replace;
 /// What was read so far.
 #[derive(Drop)]
 pub struct Reader {
-    /// The attributes that wait for the next start. After the end of the root there are none.
+    /// The attributes that wait for the next start. There are none after the end of the root.
     waiting: Vec<Bytes>,
     /// The open elements, the innermost last.
     opened: Vec<OpenElement>,
-    /// The whole root, once it has ended. From then on nothing is open.
+    /// The root, once it has ended. From then on no element is open.
     root: Option<Element>,
 }
 
 impl Model for Reader {
     ghost use Rattle.std.specs.Coded.{codes};
     ghost use Rattle.acl_model.specs.contracts.document.Item as item;
-    ghost use Rattle.esis_lines.specs.Machine.{State};
-    ghost use Rattle.esis_lines.specs.CodeValues.{state_of};
+    ghost use Rattle.esis_lines.specs.LineMachine.{State};
+    ghost use Rattle.esis_lines.specs.inside.CodeValues.{state_of};
 
     ghost Value = { State };
 
@@ -60,7 +61,7 @@ impl Reader {
         if self.root.is_some() {
             return Err(DocFault::SecondRoot { line: number });
         }
-        // This bounds all recursion over a document: of what is here, dropping one recurses.
+        // This limits the depth of all recursion over a document, such as dropping it.
         if self.opened.len() >= usize::from(MOST_OPEN_ELEMENTS) {
             return Err(DocFault::TooDeep { line: number });
         }
@@ -88,7 +89,7 @@ impl Reader {
         Ok(())
     }
 
-    /// A text stands here.
+    /// Adds a text to the innermost open element.
     fn say(&mut self, alloc: Global, number: u32, bytes: &[u8]) -> Result<(), DocFault>
         ensures { ButForMemory (reached result self.new)
             (state_after_text number bytes.now self.old) }
@@ -119,7 +120,7 @@ impl Reader {
         Ok(())
     }
 
-    /// All lines were written.
+    /// Takes the closing line.
     fn close(&self, number: u32) -> Result<(), DocFault>
         ensures { ButForMemory (reached result self.now) (state_after_closing number self.now) }
     {
@@ -135,7 +136,7 @@ impl Reader {
         Ok(())
     }
 
-    /// Takes what the line of this number says, or refuses it. Behind a fault the reader is in no state that is told.
+    /// Takes the line with this number, or refuses it. After an error the reader's state is unspecified.
     pub fn take(&mut self, alloc: Global, number: u32, line: Line) -> Result<(), DocFault>
         ensures { ButForMemory (reached result self.new)
             (state_after number self.old (line_value line.entry)) }
@@ -150,7 +151,7 @@ impl Reader {
         }
     }
 
-    /// The document, where its root has ended. The number is that of the line that would follow the last.
+    /// The document, where its root has ended. `number` is that of the line that would follow the last.
     pub fn finish(self, number: u32) -> Result<Doc, DocFault>
         ensures { result ≡ document_of_state number self }
     {
@@ -169,7 +170,7 @@ impl Reader {
     }
 }
 
-/// A whole element stands in the innermost of those that are open around it. With none around it is the root, and is handed back.
+/// Adds a whole element to the innermost open element. Where none is open, it is the root and is returned.
 fn place(
     alloc: Global,
     element: Element,

@@ -1,4 +1,4 @@
--- Reads that grow hash what they hashed before and more: so where there is no clash in the end, there was none before.
+-- Longer reads hash what shorter ones hashed, and more. So where there is no clash in the end, there was none before.
 use Rattle.std.proofs.Common.{◌≡◌, ℕ, zero, suc, false, List, [], ◌∷◌, ◌++◌, length, drop, ◌≤◌, refl, sym, ap, ◌∙◌, subst, inl, inr, arith, true≢false}
 use Rattle.std.specs.Prelude.{nat_eq, fold, Option, Some, None, option_map, option_and_then, option_to_list, Contains}
 use Rattle.std.specs.Option.{option_map_or}
@@ -24,7 +24,7 @@ use Rattle.fragment_open.proofs.TreeLemmas.{if_true, if_false}
 -- ---- one more read of a sibling
 
 module _ (n : ℕ) (o : Opening) (r : StoreRead) where
-  -- a string that an opening names on a level stays
+  -- a string that an opening names on a level stays the same
   named_at-more : (l : ℕ) (s : StringName × List ℕ) → Contains (named_at sha256 n o l) s → Contains (named_at sha256 n (with_sibling o r) l) s
   named_at-more l s has = by (string_at sha256 n o l) refl has
     where
@@ -48,7 +48,7 @@ module _ (n : ℕ) (o : Opening) (r : StoreRead) where
 
 -- ---- one more read
 
--- what was hashed stays so where one more opening is made
+-- what was hashed stays hashed with one more opening
 opened-more : (n : ℕ) (o : Opening) (os : List Opening) (s : StringName × List ℕ) → Contains (hashed_in sha256 n os) s → Contains (hashed_in sha256 n (o ∷ os)) s
 unfolding hashed_in
 opened-more n o os s has =
@@ -59,7 +59,7 @@ opened-more n o os s has =
       | inr e ↦ subst P (sym (if_false (is_stopped sha256 n os) (hashed_in sha256 n os) (hashed_in sha256 n os ++ more) e)) (Contains-append_left (hashed_in sha256 n os) more s has)
     ]
 
--- and where the newest opening has one more sibling
+-- and with one more sibling of the newest opening
 sibling-more : (n : ℕ) (os : List Opening) (r : StoreRead) (s : StringName × List ℕ) → Contains (hashed_in sha256 n os) s → Contains (hashed_in sha256 n (with_next os r)) s
 unfolding hashed_in
 sibling-more n [] r s has = has
@@ -101,9 +101,9 @@ two_dropped [] ys h = absurd (omega (arith, h))
 two_dropped (a ∷ []) ys h = absurd (omega (arith, h))
 two_dropped (a ∷ b ∷ xs) ys h = refl
 
-openings-behind : (a t : List StoreRead) → 2 ≤ length a → openings (a ++ t) ≡ fold with_read (openings a) t
+openings-after : (a t : List StoreRead) → 2 ≤ length a → openings (a ++ t) ≡ fold with_read (openings a) t
 unfolding openings
-openings-behind a t two = ap (fold with_read []) (two_dropped a t two) ∙ fold-more [] (drop 2 a) t
+openings-after a t two = ap (fold with_read []) (two_dropped a t two) ∙ fold-more [] (drop 2 a) t
 
 -- what reads hash, by the header and the top digest served
 hashed-by : (h : Header) (top : List ℕ) (reads : List StoreRead) → header_served reads ≡ Some h → top_served reads ≡ Some top
@@ -125,7 +125,7 @@ module _ (h : Header) (top : List ℕ) (a t : List StoreRead) (header_is : heade
       let before : hashed sha256 a ≡ first ++ hashed_in sha256 n (openings a) = hashed-by h top a header_is top_is in
       let after : hashed sha256 (a ++ t) ≡ first ++ hashed_in sha256 n (fold with_read (openings a) t) =
       hashed-by h top (a ++ t) (header_served-more a t h header_is) (top_served-more a t top top_is)
-      ∙ ap (λ (os : List Opening). (root, root_string (header_bytes h) top) ∷ hashed_in sha256 n os) (openings-behind a t (two_reads a top top_is)) in
+      ∙ ap (λ (os : List Opening). (root, root_string (header_bytes h) top) ∷ hashed_in sha256 n os) (openings-after a t (two_reads a top top_is)) in
       subst P (sym after)
       (elim (Contains-append_cases first (hashed_in sha256 n (openings a)) s (subst P before has)) [
         | inl e ↦ Contains-append_left first (hashed_in sha256 n (fold with_read (openings a) t)) s e

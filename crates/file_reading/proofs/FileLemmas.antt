@@ -1,4 +1,4 @@
--- How the reading of a file ends, by its start, its stream and its document.
+-- How the reading of a file ends, given its start, its stream and its document.
 use Rattle.std.proofs.Common.{◌≡◌, ℕ, Bool, true, false, ◌||◌, List, [], ◌∷◌, ◌++◌, length, map, refl, sym, ap, ◌∙◌, subst, ◌⊎◌, inl, inr, arith, append_assoc, true≢false}
 use Rattle.std.specs.Prelude.{Option, Some, None, nat_eq, Ok, Err, IfSome}
 use Rattle.std.specs.List.{list_all, list_any}
@@ -14,12 +14,12 @@ use Rattle.merkle_chunks.specs.HeaderBytes.{fragment_count}
 use Rattle.merkle_chunks.specs.declared.header.Header.{Header}
 use Rattle.skip_decode.specs.StreamOf.{IsStreamOf}
 use Rattle.fragment_open.specs.Asks.{ask_of, top_ask}
-use Rattle.fragment_open.specs.Checked.{AreOpeningsChecked}
+use Rattle.fragment_open.specs.Checked.{AllFoldUnlessRefused}
 use Rattle.fragment_open.specs.Clash.{reads_clash}
 use Rattle.fragment_open.specs.Plain.{plain_served}
 use Rattle.fragment_open.specs.Settled.{is_start, root_by, since}
 use Rattle.fragment_open.specs.Starting.{HoldsDocument, IsNotStarted, IsStartCause, IsStarted, IsUnder}
-use Rattle.fragment_open.specs.Told.{Told, is_whole}
+use Rattle.fragment_open.specs.CallReads.{Told, is_whole}
 use Rattle.fragment_open.proofs.CheckedLemmas.{unopened-folds, unrefused-checked}
 use Rattle.fragment_open.proofs.ClimbLemmas.{Told-weaker}
 use Rattle.fragment_open.proofs.KeyLemmas.{either}
@@ -29,7 +29,7 @@ use Rattle.file_reading.specs.declared.fault.FileFault.{FileFault}
 use Rattle.file_reading.specs.declared.fault.FileFault.TheVariants.{NoMemory, Refused}
 use Rattle.tag_dictionary.specs.declared.fault.DictFault.{DictFault}
 use Rattle.tag_dictionary.specs.declared.fault.DictFault.TheVariants as index
-use Rattle.file_reading.specs.FileFaults.{fault_of_index}
+use Rattle.file_reading.specs.inside.FileFaults.{fault_of_index}
 use Rattle.file_reading.specs.WholeFile.{IsWholeFile}
 use Rattle.file_reading.specs.FileEnds.{FileEnds, IsFileCause, IsStreamFault, IsStreamRead, StreamShown}
 use Rattle.file_reading.proofs.ShownLemmas.{length_one}
@@ -119,15 +119,15 @@ since-started h top a [] more s none = absurd (true≢false (sym (ap is_pair s.a
     is_pair (x ∷ xs) = true
 since-started h top a (r ∷ g) more s none =
     since-start a r (g ++ more) (ap (λ (asks : List (ℕ × ℕ)). first_is asks) s.asked)
-    (list_any-append is_start g more ∙ ap (λ (v : Bool). v || list_any is_start more) (no_start g (ap behind s.asked)) ∙ none)
+    (list_any-append is_start g more ∙ ap (λ (v : Bool). v || list_any is_start more) (no_start g (ap after s.asked)) ∙ none)
   where
     first_is : List (ℕ × ℕ) → Bool
     first_is [] = true
     first_is (x ∷ xs) = nat_eq x.1 64
 
-    behind : List (ℕ × ℕ) → List (ℕ × ℕ)
-    behind [] = []
-    behind (x ∷ xs) = xs
+    after : List (ℕ × ℕ) → List (ℕ × ℕ)
+    after [] = []
+    after (x ∷ xs) = xs
 
     any_start : List (ℕ × ℕ) → Bool
     any_start asks = list_any (λ (x : ℕ × ℕ). nat_eq x.1 64) asks
@@ -150,7 +150,7 @@ told-since h top (Some a) (Some b) (Some c) P s m p =
     let all : c ≡ a ++ (s.0 ++ m.0) = m.1 ∙ ap (λ (l : List StoreRead). l ++ m.0) s.1 ∙ append_assoc a s.0 m.0 in
     (s.0 ++ m.0, all, subst P (ap since all ∙ since-started h top a s.0 m.0 s.2 m.2) p)
 
--- ---- what is told of a store
+-- ---- what contracts see of a store
 
 still_some : {X : Type 0} (o : Option X) (P Q : X → Type 0) → IfSome o P → ((x : X) → P x → Q x) → IfSome o Q
 still_some None P Q p more = tt
@@ -171,13 +171,13 @@ stream_fault_told root key fault h top taken served ends shown =
 abbrev IsShownRead : Header → List ℕ → List ℕ → List ℕ → List ℕ → List StoreRead → Type 0
 IsShownRead h top root key stream reads = IsStreamRead h root key stream reads × (IsWholeFile root key h top reads × (stream ≡ plain_served key reads))
 
--- where no fragment was refused, that is so of each answer
-pub decoded_checked : (served : Option (List StoreRead)) (refused : Bool) → IfSome served (λ all. AreOpeningsChecked false (since all)) → IfSome served (λ all. AreOpeningsChecked refused (since all))
+-- where no fragment was refused, the openings were checked for each answer
+pub decoded_checked : (served : Option (List StoreRead)) (refused : Bool) → IfSome served (λ all. AllFoldUnlessRefused false (since all)) → IfSome served (λ all. AllFoldUnlessRefused refused (since all))
 decoded_checked served refused checked =
-    still_some served (λ all. AreOpeningsChecked false (since all)) (λ all. AreOpeningsChecked refused (since all)) checked (λ all c. unrefused-checked (since all) refused c)
+    still_some served (λ all. AllFoldUnlessRefused false (since all)) (λ all. AllFoldUnlessRefused refused (since all)) checked (λ all c. unrefused-checked (since all) refused c)
 
 module _ (root key : List ℕ) (h : Header) (top taken : List ℕ) (under : IsUnder root key h top taken) where
-  -- a stream that was read is one under the root and the key that were given
+  -- a stream that was read is one under the given root and key
   read_under : (stream : List ℕ) (served : Option (List StoreRead)) → IfSome served (λ all. IsShownRead h top (root_by h top) taken stream (since all)) → IfSome served (λ all. IsShownRead h top root key stream (since all))
   read_under stream served read =
       let P : List ℕ → Type 0 = λ r. IfSome served (λ all. IsShownRead h top r taken stream (since all)) in
@@ -215,7 +215,7 @@ module _ (root key : List ℕ) (h : Header) (top taken : List ℕ) (under : IsUn
         still_some served (λ all. IsShownRead h top root key stream (since all)) (λ all. FileEnds (Err NoMemory) root key (since all)) both_under
         (λ all r. memory-ends h root key stream (since all) r.0 top r.1.0 r.1.1)
 
-  -- ---- what a store gives that holds the file
+  -- ---- what a store that holds the file gives
 
   module _ (a b : Option (List ℕ)) (constant : b ≡ a) (d : Doc) (is : HoldsDocument a d key) (root_is : file_root d key ≡ root) where
     pub holds_so : HoldsDocument b d taken

@@ -14,7 +14,7 @@ use Rattle.fragment_open.specs.Openings.{Opening, index_of, indexes, openings}
 use Rattle.fragment_open.specs.Served.{fragments_served}
 use Rattle.fragment_open.specs.Settled.{IsKept, IsSettled, Opens, Settled, is_start, since}
 use Rattle.fragment_open.specs.Starting.{AreOfStart, IsNotStarted, IsStartCause}
-use Rattle.fragment_open.specs.Told.{Told}
+use Rattle.fragment_open.specs.CallReads.{Told}
 use Rattle.std.specs.List.{list_any}
 use Rattle.fragment_open.proofs.ClimbLemmas.{Told-weaker}
 use Rattle.fragment_open.proofs.StartLemmas.{no_openings}
@@ -46,24 +46,24 @@ not_started_order T root key fault a b told =
     Told-weaker a b (IsNotStarted root key fault) (OpensInOrder {T = T} (Err (Refused fault))) told
     (λ t n. (0, ap (map index_of) (no_openings t (few_reads root key fault t n.1))))
 
--- ---- one fragment more
+-- ---- one more fragment
 
--- the fragments opened since a time are the first ones, where the store tells what it served then and now
-abbrev pub AreFirstBehind : ℕ → Option (List StoreRead) → Option (List StoreRead) → Type 0
-AreFirstBehind count before now = IfSome before (λ old. IfSome now (λ new. indexes (since new) ≡ numbers_below count ++ indexes (since old)))
+-- the fragments opened since `before` are the first `count` ones, where the store tells what it served then and now
+abbrev pub AreFirstAfter : ℕ → Option (List StoreRead) → Option (List StoreRead) → Type 0
+AreFirstAfter count before now = IfSome before (λ old. IfSome now (λ new. indexes (since new) ≡ numbers_below count ++ indexes (since old)))
 
-pub none_yet : (a : Option (List StoreRead)) → AreFirstBehind 0 a a
+pub none_yet : (a : Option (List StoreRead)) → AreFirstAfter 0 a a
 none_yet None = tt
 none_yet (Some x) = refl
 
-pub one_more : {T : Type 0} (done : T) (i : ℕ) (a b c : Option (List StoreRead)) → Told a b (λ more. list_any is_start more ≡ false) → AreFirstBehind i a b → Opens (Ok done) i b c → AreFirstBehind (i + 1) a c
+pub one_more : {T : Type 0} (done : T) (i : ℕ) (a b c : Option (List StoreRead)) → Told a b (λ more. list_any is_start more ≡ false) → AreFirstAfter i a b → Opens (Ok done) i b c → AreFirstAfter (i + 1) a c
 one_more done i None b c t p o = tt
 one_more done i (Some x) None c t p o = absurd t
 one_more done i (Some x) (Some y) None t p o = tt
 one_more done i (Some x) (Some y) (Some z) t p o =
     o ∙ ap (λ (l : List ℕ). i ∷ l) p ∙ ap (λ (n : ℕ). numbers_below n ++ indexes (since x)) (sym (add-one i))
 
-pub one_less : {U : Type 0} (T : Type 0) (fault : ReadFault) (i : ℕ) (a b c : Option (List StoreRead)) → Told a b (λ more. list_any is_start more ≡ false) → AreFirstBehind i a b → Opens {T = T} (Err fault) i b c
+pub one_less : {U : Type 0} (T : Type 0) (fault : ReadFault) (i : ℕ) (a b c : Option (List StoreRead)) → Told a b (λ more. list_any is_start more ≡ false) → AreFirstAfter i a b → Opens {T = T} (Err fault) i b c
     → (result : Result U FileFault) (made : FileFault) → result ≡ Err made → GoesOnInOrder result a c
 one_less {U} T fault i a b c told p o result made is = subst (λ (r : Result U FileFault). GoesOnInOrder r a c) (sym is) (by a b c told p o)
   where
@@ -72,34 +72,34 @@ one_less {U} T fault i a b c told p o result made is = subst (λ (r : Result U F
     last x y z p (inl o) = (suc i, o ∙ ap (λ (l : List ℕ). i ∷ l) p)
     last x y z p (inr o) = (i, o ∙ p)
 
-    by : (x y z : Option (List StoreRead)) → Told x y (λ more. list_any is_start more ≡ false) → AreFirstBehind i x y → Opens {T = T} (Err fault) i y z → GoesOnInOrder {T = U} (Err made) x z
+    by : (x y z : Option (List StoreRead)) → Told x y (λ more. list_any is_start more ≡ false) → AreFirstAfter i x y → Opens {T = T} (Err fault) i y z → GoesOnInOrder {T = U} (Err made) x z
     by None y z t p o = tt
     by (Some x) None z t p o = absurd t
     by (Some x) (Some y) None t p o = tt
     by (Some x) (Some y) (Some z) t p o = last x y z p o
 
--- memory was wanting behind so many fragments
-pub stopped_order : {U : Type 0} (count : ℕ) (a c : Option (List StoreRead)) → AreFirstBehind count a c → (result : Result U FileFault) (made : FileFault) → result ≡ Err made → GoesOnInOrder result a c
+-- memory ran out after so many fragments
+pub stopped_order : {U : Type 0} (count : ℕ) (a c : Option (List StoreRead)) → AreFirstAfter count a c → (result : Result U FileFault) (made : FileFault) → result ≡ Err made → GoesOnInOrder result a c
 stopped_order {U} count a c p result made is = subst (λ (r : Result U FileFault). GoesOnInOrder r a c) (sym is) (by a c p)
   where
-    by : (x z : Option (List StoreRead)) → AreFirstBehind count x z → GoesOnInOrder {T = U} (Err made) x z
+    by : (x z : Option (List StoreRead)) → AreFirstAfter count x z → GoesOnInOrder {T = U} (Err made) x z
     by None z p = tt
     by (Some x) None p = tt
     by (Some x) (Some z) p = (count, p)
 
 -- all of them were opened
 pub whole_order : {U : Type 0} (value : U) (start now : Head) (same : now ≡ start) (kept : Option Kept) (fault : Option ReadFault) (quiet : fault ≡ None) (count : ℕ) (a c : Option (List StoreRead))
-    → count ≡ fragment_count start.header → Settled c now.header now.top kept fault → AreFirstBehind count a c → GoesOnInOrder (Ok value) a c
+    → count ≡ fragment_count start.header → Settled c now.header now.top kept fault → AreFirstAfter count a c → GoesOnInOrder (Ok value) a c
 whole_order value start now same kept fault quiet count a c all is p = by a c (of_start start now same kept c fault quiet is) p
   where
-    by : (x z : Option (List StoreRead)) → Settled z start.header start.top kept None → AreFirstBehind count x z → GoesOnInOrder (Ok value) x z
+    by : (x z : Option (List StoreRead)) → Settled z start.header start.top kept None → AreFirstAfter count x z → GoesOnInOrder (Ok value) x z
     by None z s p = tt
     by (Some x) None s p = tt
     by (Some x) (Some z) s p =
         let served : fragments_served (since z) ≡ fragment_count start.header = ap (λ (o : Option Header). option_map_or fragment_count o 0) s.header_is in
         p ∙ ap (λ (n : ℕ). numbers_below n ++ indexes (since x)) (all ∙ sym served)
 
--- ---- by an opener that opened none before
+-- ---- an opener that opened no fragment before
 
 pub nothing_kept : (n : ℕ) (os : List Opening) → IsKept n None os → os ≡ []
 nothing_kept n [] is = refl

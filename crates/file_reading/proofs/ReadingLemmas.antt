@@ -1,4 +1,4 @@
--- What an opener's further reads are of its file: they were checked, and their plain bytes are the stream.
+-- An opener's further reads were checked, and their plain bytes are the stream.
 use Rattle.std.proofs.Common.{◌≡◌, ℕ, zero, suc, ◌+◌, ◌<◌, Bool, false, List, [], ◌++◌, length, map, refl, sym, ap, ◌∙◌, subst, ◌⊎◌, inl, inr, arith, append_assoc, append-nil}
 use Rattle.std.specs.Prelude.{Option, Some, None, Result, Ok, Err, IfSome, Vec}
 use Rattle.std.specs.declared.alloc.Global.{Global}
@@ -13,21 +13,21 @@ use Rattle.merkle_chunks.specs.File.{key_check}
 use Rattle.merkle_chunks.specs.declared.header.Header.{Header}
 use Rattle.fragment_open.specs.declared.head.Head.{Head}
 use Rattle.fragment_open.specs.declared.kept.Kept.{Kept}
-use Rattle.fragment_open.specs.Checked.{AreChecked, AreOpeningsChecked, refuses_fragment}
+use Rattle.fragment_open.specs.Checked.{AreVerifiedUnder, AllFoldUnlessRefused, refuses_fragment}
 use Rattle.fragment_open.specs.Hashed.{folded}
 use Rattle.fragment_open.specs.Openings.{index_of, indexes, openings}
 use Rattle.fragment_open.specs.Plain.{plain_in, plain_served}
 use Rattle.fragment_open.specs.Served.{fragments_served, header_served}
-use Rattle.fragment_open.specs.Settled.{AddsPlain, IsSettled, OpensNone, Settled, is_start, root_by, since}
-use Rattle.fragment_open.specs.Told.{Told, is_whole}
+use Rattle.fragment_open.specs.Settled.{AddsPlain, IsSettled, CompletesNone, Settled, is_start, root_by, since}
+use Rattle.fragment_open.specs.CallReads.{Told, is_whole}
 use Rattle.fragment_open.proofs.CheckedLemmas.{settled-checked}
 use Rattle.fragment_open.proofs.FetchLemmas.{count_served}
 use Rattle.fragment_open.proofs.SinceLemmas.{header_served-more, since-append}
 use Rattle.file_reading.specs.declared.fault.FileFault.{FileFault}
 use Rattle.file_reading.specs.declared.fault.FileFault.TheVariants.{NoMemory, Refused}
 use Rattle.file_reading.specs.WholeFile.{IsUnfinished, numbers_below}
-use Rattle.file_reading.specs.FileEnds.{GoesOnInOrder, GoesOnReading, ReadsBehind, StreamEnds, StreamShown, is_bad_fragment}
-use Rattle.file_reading.proofs.OrderLemmas.{AreFirstBehind, nothing_kept}
+use Rattle.file_reading.specs.FileEnds.{GoesOnInOrder, GoesOnReading, ReadsAfter, StreamEnds, StreamShown, is_bad_fragment}
+use Rattle.file_reading.proofs.OrderLemmas.{AreFirstAfter, nothing_kept}
 use Rattle.file_reading.proofs.StreamLemmas.{of_start}
 
 pub length-numbers_below : (n : ℕ) → length (numbers_below n) ≡ n
@@ -36,7 +36,7 @@ length-numbers_below (suc n) = ap suc (length-numbers_below n)
 
 -- ---- the plain bytes
 
--- the plain bytes of what was opened are those of an earlier time, and a stream behind them
+-- the plain bytes of the fragments opened are those opened before, followed by a stream
 abbrev pub HasPlain : List ℕ → List ℕ → Option (List StoreRead) → Option (List StoreRead) → Type 0
 HasPlain key stream before now = IfSome before (λ old. IfSome now (λ new. plain_served key (since new) ≡ plain_served key (since old) ++ stream))
 
@@ -61,11 +61,11 @@ plain_one_more {T} done start now same stream fragment a b c told p o = by a b c
 -- ---- the openings were checked
 
 module _ (start now : Head) (same : now ≡ start) (kept : Option Kept) (fault : Option ReadFault) (quiet : fault ≡ None) where
-  -- those of an opener that refused none
-  pub good_checked : (served : Option (List StoreRead)) → Settled served now.header now.top kept fault → (refused : Bool) → IfSome served (λ all. AreOpeningsChecked refused (since all))
+  -- the openings of an opener that refused none
+  pub good_checked : (served : Option (List StoreRead)) → Settled served now.header now.top kept fault → (refused : Bool) → IfSome served (λ all. AllFoldUnlessRefused refused (since all))
   good_checked served is refused = by served (of_start start now same kept served fault quiet is)
     where
-      by : (s : Option (List StoreRead)) → Settled s start.header start.top kept None → IfSome s (λ all. AreOpeningsChecked refused (since all))
+      by : (s : Option (List StoreRead)) → Settled s start.header start.top kept None → IfSome s (λ all. AllFoldUnlessRefused refused (since all))
       by None is = tt
       by (Some all) is = settled-checked start.header start.top kept (since all) refused is
 
@@ -81,7 +81,7 @@ module _ (start now : Head) (same : now ≡ start) (kept : Option Kept) (fault :
 
   -- a fragment of a stream was refused
   pub fetch_reading : (i : ℕ) → i < fragment_count start.header → (a b c : Option (List StoreRead)) → Told a b (λ more. list_any is_start more ≡ false) → Settled b now.header now.top kept fault
-      → Told b c (λ more. list_any is_start more ≡ false) → AreFirstBehind i a b → (refused : ReadFault) → (◌≡◌ {A = Result (Unit {0}) ReadFault} (Err refused) (Err StoreFault) → OpensNone b c)
+      → Told b c (λ more. list_any is_start more ≡ false) → AreFirstAfter i a b → (refused : ReadFault) → (◌≡◌ {A = Result (Unit {0}) ReadFault} (Err refused) (Err StoreFault) → CompletesNone b c)
       → (result : Result (Vec ℕ Global) FileFault) (made : FileFault) → result ≡ Err made → made ≡ Refused refused → GoesOnReading result start.header start.top start.key a c
   fetch_reading i lt a b c before is told order refused none result made result_is made_is =
       subst (λ (r : Result (Vec ℕ Global) FileFault). GoesOnReading r start.header start.top start.key a c) (sym (result_is ∙ ap (λ (f : FileFault). Err f) made_is)) (by refused none)
@@ -92,7 +92,7 @@ module _ (start now : Head) (same : now ≡ start) (kept : Option Kept) (fault :
       anyway (Some x) (Some z) = tt
 
       stopped : (x y z : Option (List StoreRead)) → Told x y (λ more. list_any is_start more ≡ false) → Settled y start.header start.top kept None → Told y z (λ more. list_any is_start more ≡ false)
-          → AreFirstBehind i x y → OpensNone y z → GoesOnReading (Err (Refused StoreFault)) start.header start.top start.key x z
+          → AreFirstAfter i x y → CompletesNone y z → GoesOnReading (Err (Refused StoreFault)) start.header start.top start.key x z
       stopped None y z t s u o n = tt
       stopped (Some x) None z t s u o n = absurd t
       stopped (Some x) (Some y) None t s u o n = tt
@@ -105,7 +105,7 @@ module _ (start now : Head) (same : now ≡ start) (kept : Option Kept) (fault :
           ap length (opened ∙ o) ∙ length-append (numbers_below i) (indexes (since x)) ∙ ap (λ (m : ℕ). m + length (indexes (since x))) (length-numbers_below i) in
           inl (omega (arith, long, count, lt))
 
-      by : (f : ReadFault) → (◌≡◌ {A = Result (Unit {0}) ReadFault} (Err f) (Err StoreFault) → OpensNone b c) → GoesOnReading (Err (Refused f)) start.header start.top start.key a c
+      by : (f : ReadFault) → (◌≡◌ {A = Result (Unit {0}) ReadFault} (Err f) (Err StoreFault) → CompletesNone b c) → GoesOnReading (Err (Refused f)) start.header start.top start.key a c
       by StoreFault n = stopped a b c before (of_start start now same kept b fault quiet is) told order (n refl)
       by BadHeader n = anyway a c
       by (WrongRoot want wrong) n = anyway a c
@@ -114,13 +114,13 @@ module _ (start now : Head) (same : now ≡ start) (kept : Option Kept) (fault :
       by (BadFragment index want wrong) n = anyway a c
       by BadIndex n = anyway a c
 
--- a refused fragment was checked as an answer of the whole
-pub fault_checked : (refused : ReadFault) (served : Option (List StoreRead)) → IfSome served (λ all. AreOpeningsChecked (refuses_fragment refused) (since all))
-    → (result : Result (Vec ℕ Global) FileFault) (made : FileFault) → result ≡ Err made → made ≡ Refused refused → IfSome served (λ all. AreOpeningsChecked (is_bad_fragment result) (since all))
+-- openings that were checked for a fragment's answer were checked for the file's answer
+pub fault_checked : (refused : ReadFault) (served : Option (List StoreRead)) → IfSome served (λ all. AllFoldUnlessRefused (refuses_fragment refused) (since all))
+    → (result : Result (Vec ℕ Global) FileFault) (made : FileFault) → result ≡ Err made → made ≡ Refused refused → IfSome served (λ all. AllFoldUnlessRefused (is_bad_fragment result) (since all))
 fault_checked refused served checked result made result_is made_is =
-    subst (λ (v : Bool). IfSome served (λ all. AreOpeningsChecked v (since all))) (sym (ap is_bad_fragment (result_is ∙ ap (λ (f : FileFault). Err f) made_is))) checked
+    subst (λ (v : Bool). IfSome served (λ all. AllFoldUnlessRefused v (since all))) (sym (ap is_bad_fragment (result_is ∙ ap (λ (f : FileFault). Err f) made_is))) checked
 
--- memory was wanting
+-- memory ran out
 pub stopped_reading : (h : Header) (top key : List ℕ) (a c : Option (List StoreRead)) (result : Result (Vec ℕ Global) FileFault) (made : FileFault) → result ≡ Err made → made ≡ NoMemory → GoesOnReading result h top key a c
 stopped_reading h top key a c result made result_is made_is =
     subst (λ (r : Result (Vec ℕ Global) FileFault). GoesOnReading r h top key a c) (sym (result_is ∙ ap (λ (f : FileFault). Err f) made_is)) (by a c)
@@ -130,7 +130,7 @@ stopped_reading h top key a c result made result_is made_is =
     by (Some x) None = tt
     by (Some x) (Some z) = tt
 
--- ---- by an opener that opened none before
+-- ---- an opener that opened no fragment before
 
 plain_of_none : (key : List ℕ) (reads : List StoreRead) → openings reads ≡ [] → plain_served key reads ≡ []
 unfolding plain_served

@@ -1,4 +1,4 @@
--- What reads show of a file, and that it is answered.
+-- Where the reads show a refusal of a file, this refusal is the answer.
 use Rattle.std.proofs.Common.{◌≡◌, ℕ, ◌+◌, ◌≤◌, Bool, true, false, ◌&&◌, List, [], ◌∷◌, ◌++◌, length, map, refl, sym, ap, ◌∙◌, subst, ◌⊎◌, inl, inr, arith, true≢false}
 use Rattle.std.specs.Prelude.{Result, Ok, Err, Option, Some, None, is_some, option_map, option_and_then, IfSome}
 use Rattle.std.specs.List.{list_all, list_any, slice_get}
@@ -18,7 +18,7 @@ use Rattle.fragment_open.specs.Openings.{index_of}
 use Rattle.fragment_open.specs.Served.{header_in, header_served, root_served, top_served, whole}
 use Rattle.fragment_open.specs.Settled.{FetchEnds, FoldAsWanted, IsFetchCause, Settled, is_start, root_by, since}
 use Rattle.fragment_open.specs.Starting.{AreOfStart, IsNotStarted, IsStartCause, IsUnder}
-use Rattle.fragment_open.specs.Told.{IsCut, Told, is_whole}
+use Rattle.fragment_open.specs.CallReads.{IsCut, Told, is_whole}
 use Rattle.fragment_open.proofs.ClashLemmas.{both_true}
 use Rattle.fragment_open.proofs.ClimbLemmas.{Told-weaker, cut-not_whole, first_asked, length-map_ask, less-neq, one_short}
 use Rattle.fragment_open.proofs.FetchLemmas.{settled-unrefused}
@@ -34,7 +34,7 @@ use Rattle.file_reading.proofs.StreamLemmas.{of_start}
 pub no_value : {A : Type 0} (o : Option A) (x : A) → o ≡ None → o ≡ Some x → ⊥
 no_value o x none some = true≢false (sym (ap is_some (sym none ∙ some)))
 
--- ---- the first read that came short
+-- ---- the first short read
 
 whole-none_short : (reads : List StoreRead) → list_all is_whole reads ≡ true → first_short reads ≡ None
 whole-none_short [] all = refl
@@ -43,13 +43,13 @@ whole-none_short (r ∷ reads) all =
     if_true (is_whole r) (first_short reads) (Some (r.at + length r.bytes)) p.0 ∙ whole-none_short reads p.1
 
 cut-first_short : (to : ℕ) (reads : List StoreRead) → IsCut to reads → first_short reads ≡ Some to
-cut-first_short to reads c = ap first_short c.all ∙ behind c.before c.whole ∙ ap (λ (n : ℕ). Some n) (sym c.place)
+cut-first_short to reads c = ap first_short c.all ∙ after c.before c.whole ∙ ap (λ (n : ℕ). Some n) (sym c.place)
   where
-    behind : (before : List StoreRead) → list_all is_whole before ≡ true → first_short (before ++ (c.last ∷ [])) ≡ Some (c.last.at + length c.last.bytes)
-    behind [] all = if_false (is_whole c.last) None (Some (c.last.at + length c.last.bytes)) (less-neq (length c.last.bytes) c.last.asked c.short)
-    behind (x ∷ before) all =
+    after : (before : List StoreRead) → list_all is_whole before ≡ true → first_short (before ++ (c.last ∷ [])) ≡ Some (c.last.at + length c.last.bytes)
+    after [] all = if_false (is_whole c.last) None (Some (c.last.at + length c.last.bytes)) (less-neq (length c.last.bytes) c.last.asked c.short)
+    after (x ∷ before) all =
         let p = both_true (is_whole x) (list_all is_whole before) all in
-        if_true (is_whole x) (first_short (before ++ (c.last ∷ []))) (Some (x.at + length x.bytes)) p.0 ∙ behind before p.1
+        if_true (is_whole x) (first_short (before ++ (c.last ∷ []))) (Some (x.at + length x.bytes)) p.0 ∙ after before p.1
 
 not_short : (reads : List StoreRead) (to : ℕ) → list_all is_whole reads ≡ true → first_short reads ≡ Some to → ⊥
 not_short reads to all short = no_value (first_short reads) to (whole-none_short reads all) short
@@ -64,13 +64,13 @@ second_asked (a ∷ b ∷ asks) = b.1
 asked_length : (reads : List StoreRead) (asks : List (ℕ × ℕ)) → map ask_of reads ≡ asks → length reads ≡ length asks
 asked_length reads asks same = sym (length-map_ask reads) ∙ ap length same
 
--- the read of the header alone that came short served none
+-- a short read of the header, and no other read, served no header
 header_short : (reads : List StoreRead) → map ask_of reads ≡ header_ask ∷ [] → list_all is_whole reads ≡ false → option_and_then (whole 64) (slice_get reads 0) ≡ None
 header_short [] asked short = refl
 header_short (r ∷ []) asked short = one_short 64 r (ap first_asked asked) short
 header_short (r ∷ q ∷ reads) asked short = absurd (omega (arith, asked_length (r ∷ q ∷ reads) (header_ask ∷ []) asked))
 
--- where the second of the two reads of a start came short, it served no top digest
+-- a short second read of the two reads of a start served no top digest
 top_short : (reads : List StoreRead) (h : Header) → AreOfStart h reads → list_all is_whole reads ≡ false → top_served reads ≡ None
 top_short [] h of short = refl
 top_short (r ∷ []) h of short = refl
@@ -114,13 +114,13 @@ module _ (root key : List ℕ) (reads : List StoreRead) where
   unrefused : FoldAsWanted reads → (index : ℕ) (want made : List ℕ) → IsShown root key (BadFragment index want made) reads → ⊥
   unrefused as_wanted index want made s = s.3 (same_value want made (sym s.2 ∙ as_wanted made s.1))
 
-  -- ---- behind a start under the root and the key
+  -- ---- after a start under the root and the key
 
-  behind_start : {T : Type 0} (result : Result T FileFault) (h : Header) (top : List ℕ) → header_served reads ≡ Some h → top_served reads ≡ Some top → root_by h top ≡ root → key_check key ≡ h.check
+  after_start : {T : Type 0} (result : Result T FileFault) (h : Header) (top : List ℕ) → header_served reads ≡ Some h → top_served reads ≡ Some top → root_by h top ≡ root → key_check key ≡ h.check
       → ((to : ℕ) → first_short reads ≡ Some to → result ≡ Err (Refused (StoreShort to)))
       → ((index : ℕ) (want made : List ℕ) → IsShown root key (BadFragment index want made) reads → result ≡ Err (Refused (BadFragment index want made)))
       → IsRefusedWhereShown result root key reads
-  behind_start {T} result h top header_is top_is root_is check short bad fault shown = by fault shown
+  after_start {T} result h top header_is top_is root_is check short bad fault shown = by fault shown
     where
       root_made : option_map sha256 (root_served reads) ≡ Some root
       root_made = ap (option_map sha256) (root_served-is h top reads header_is top_is) ∙ ap (λ (d : List ℕ). Some d) root_is
@@ -135,11 +135,11 @@ module _ (root key : List ℕ) (reads : List StoreRead) where
       by StoreFault s = absurd s
       by BadIndex s = absurd s
 
-  -- reads that came whole, in which no refusal stands, show nothing
-  behind_good : {T : Type 0} (result : Result T FileFault) (h : Header) (top : List ℕ) → header_served reads ≡ Some h → top_served reads ≡ Some top → root_by h top ≡ root → key_check key ≡ h.check
+  -- whole reads that show no refusal of the newest opening show no other one
+  after_good : {T : Type 0} (result : Result T FileFault) (h : Header) (top : List ℕ) → header_served reads ≡ Some h → top_served reads ≡ Some top → root_by h top ≡ root → key_check key ≡ h.check
       → list_all is_whole reads ≡ true → FoldAsWanted reads → IsRefusedWhereShown result root key reads
-  behind_good result h top header_is top_is root_is check all as_wanted =
-      behind_start result h top header_is top_is root_is check
+  after_good result h top header_is top_is root_is check all as_wanted =
+      after_start result h top header_is top_is root_is check
       (λ to s. absurd (not_short reads to all s))
       (λ index want made s. absurd (unrefused as_wanted index want made s))
 
@@ -152,13 +152,13 @@ module _ (root key : List ℕ) (reads : List StoreRead) where
   fetch_refused : {T : Type 0} (h : Header) (top : List ℕ) → header_served reads ≡ Some h → top_served reads ≡ Some top → root_by h top ≡ root → key_check key ≡ h.check
       → (index : ℕ) (fault : ReadFault) → IsFetchCause index fault reads → IsRefusedWhereShown {T = T} (Err (Refused fault)) root key reads
   fetch_refused {T} h top header_is top_is root_is check index (StoreShort to) c =
-      behind_start (Err (Refused (StoreShort to))) h top header_is top_is root_is check
+      after_start (Err (Refused (StoreShort to))) h top header_is top_is root_is check
       (λ other s. ap (λ (n : ℕ). Err (Refused (StoreShort n))) (same_value to other (sym (cut-first_short to reads c.0) ∙ s)))
       (λ i want made s. absurd (unrefused c.1 i want made s))
   fetch_refused {T} h top header_is top_is root_is check index StoreFault c =
-      behind_good (Err (Refused StoreFault)) h top header_is top_is root_is check c.0 c.1
+      after_good (Err (Refused StoreFault)) h top header_is top_is root_is check c.0 c.1
   fetch_refused {T} h top header_is top_is root_is check index (BadFragment refused want made) c =
-      behind_start (Err (Refused (BadFragment refused want made))) h top header_is top_is root_is check
+      after_start (Err (Refused (BadFragment refused want made))) h top header_is top_is root_is check
       (λ to s. absurd (not_short reads to c.1 s))
       (λ i wants makes s.
       let same : refused ≡ i = c.0 ∙ ap first_number (sym c.2.1 ∙ s.0.1) in
@@ -172,7 +172,7 @@ module _ (root key : List ℕ) (reads : List StoreRead) where
 
   -- ---- a start that was refused
 
-  -- what two reads show that served no root string
+  -- what two reads that served no root string show
   rootless_start : {T : Type 0} (result : Result T FileFault) → root_served reads ≡ None → length reads ≤ 2 → (IsShown root key BadHeader reads → result ≡ Err (Refused BadHeader))
       → ((to : ℕ) → first_short reads ≡ Some to → result ≡ Err (Refused (StoreShort to))) → IsRefusedWhereShown result root key reads
   rootless_start result none few header short fault shown = by fault shown
@@ -198,7 +198,7 @@ module _ (root key : List ℕ) (reads : List StoreRead) where
   no_bytes : (o : Option (List ℕ)) → o ≡ None → is_some o ≡ true → ⊥
   no_bytes o none there = true≢false (sym there ∙ ap is_some none)
 
-  -- the only answer that is shown by reads of which the last one came short
+  -- the only answer that is shown by reads of which the last one is short
   short_is : {T : Type 0} (to : ℕ) → IsCut to reads → (other : ℕ) → first_short reads ≡ Some other → ◌≡◌ {A = Result T FileFault} (Err (Refused (StoreShort to))) (Err (Refused (StoreShort other)))
   short_is to cut other s = ap (λ (n : ℕ). Err (Refused (StoreShort n))) (same_value to other (sym (cut-first_short to reads cut) ∙ s))
 
@@ -252,7 +252,7 @@ module _ (root key : List ℕ) (reads : List StoreRead) where
   start_refused (BadFragment index want made) c = absurd c
   start_refused BadIndex c = absurd c
 
--- ---- what is told of a store
+-- ---- what contracts see of a store
 
 pub not_started_exact : (T : Type 0) (root key : List ℕ) (fault : ReadFault) (a b : Option (List StoreRead)) → Told a b (IsNotStarted root key fault)
     → Told a b (λ reads. IsRefusedWhereShown {T = T} (Err (Refused fault)) root key reads)
@@ -268,10 +268,10 @@ module _ (start now : Head) (same : now ≡ start) (kept : Option Kept) (fault :
       by : (s : Option (List StoreRead)) → Settled s start.header start.top kept None → IfSome s (λ all. IsRefusedWhereShown result (root_by start.header start.top) start.key (since all))
       by None is = tt
       by (Some all) is =
-          behind_good (root_by start.header start.top) start.key (since all) result start.header start.top is.header_is is.top_is refl start.right_key is.all_whole
+          after_good (root_by start.header start.top) start.key (since all) result start.header start.top is.header_is is.top_is refl start.right_key is.all_whole
           (settled-unrefused start.header start.top kept (since all) is)
 
-  -- and those of one that refused a fragment show that
+  -- and those of one that refused a fragment show this refusal
   pub fetch_exact : {U : Type 0} (T : Type 0) (a b : Option (List StoreRead)) → Settled a now.header now.top kept fault → Told a b (λ more. list_any is_start more ≡ false) → (i : ℕ) (bytes : List ℕ) (refused : ReadFault)
       → IfSome b (λ all. FetchEnds {T = T} (Err refused) i now.header now.top now.key bytes (since all)) → (result : Result U FileFault) (made : FileFault) → result ≡ Err made → made ≡ Refused refused
       → IfSome b (λ all. IsRefusedWhereShown result (root_by start.header start.top) start.key (since all))
@@ -305,7 +305,7 @@ still_some None P Q p more = tt
 still_some (Some x) P Q p more = more x p
 
 module _ (root key : List ℕ) (h : Header) (top taken : List ℕ) (under : IsUnder root key h top taken) (served : Option (List StoreRead)) where
-  -- what is said of the root and the key that were taken is said of those that were given
+  -- a statement about the root and the key in the head is true of those that were given
   exact_under : {A : Type 0} (result : Result A FileFault) → IfSome served (λ all. IsRefusedWhereShown result (root_by h top) taken (since all)) → IfSome served (λ all. IsRefusedWhereShown result root key (since all))
   exact_under result exact =
       let P : List ℕ → Type 0 = λ r. IfSome served (λ all. IsRefusedWhereShown result r taken (since all)) in

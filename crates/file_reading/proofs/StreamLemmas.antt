@@ -23,7 +23,7 @@ use Rattle.acl_outside.specs.declared.read_fault.ReadFault.TheVariants.{BadFragm
 use Rattle.fragment_open.specs.declared.head.Head.{Head}
 use Rattle.fragment_open.specs.Served.{IsRegular}
 use Rattle.fragment_open.specs.Settled.{AreHeld, FetchEnds, IsFetchCause, IsFetched, IsSettled, Settled, is_start, root_by, since}
-use Rattle.fragment_open.specs.Told.{Told}
+use Rattle.fragment_open.specs.CallReads.{Told}
 use Rattle.fragment_open.proofs.ClimbLemmas.{Told-none, Told-trans}
 use Rattle.file_reading.specs.declared.fault.FileFault.{FileFault}
 use Rattle.file_reading.specs.declared.fault.FileFault.TheVariants.{Refused}
@@ -34,21 +34,21 @@ use Rattle.fragment_open.proofs.SinceLemmas.{since-append}
 use Rattle.file_reading.specs.FileEnds.{AreFirst, HeldEnds, IsHonestFault, IsStreamCause, IsStreamFault, IsStreamRead, OfHeldDocument, StreamEnds}
 use Rattle.file_reading.proofs.ClashGrowth.{clash-before}
 
--- a fragment behind those before it
-fragment_behind : (i : ℕ) (bytes : List ℕ) → 256 * (i + 1) ≤ length bytes → take (256 * i) bytes ++ get_or (fragments bytes) i [] ≡ take (256 * (i + 1)) bytes
-fragment_behind i bytes le =
+-- a fragment follows those before it
+fragment_after : (i : ℕ) (bytes : List ℕ) → 256 * (i + 1) ≤ length bytes → take (256 * i) bytes ++ get_or (fragments bytes) i [] ≡ take (256 * (i + 1)) bytes
+fragment_after i bytes le =
     let lt : i < length bytes / 256 = omega (arith, le) in
     let next : 256 * (i + 1) ≡ 256 * i + 256 = omega arith in
     ap (λ (l : List ℕ). take (256 * i) bytes ++ l) (get_or-first_chunks 256 (length bytes / 256) i bytes lt)
     ∙ sym (take-add (256 * i) 256 bytes)
     ∙ ap (λ (n : ℕ). take n bytes) (sym next)
 
--- one fragment more of a stream
+-- one more fragment of a stream
 pub fragment_more : (d : Doc) (key : List ℕ) (h : Header) (i : ℕ) (stream fragment : List ℕ) → h ≡ document_header d key → i < fragment_count h
     → stream ≡ take (256 * i) (plain d) → fragment ≡ get_or (fragments (plain d)) i [] → stream ++ fragment ≡ take (256 * (i + 1)) (plain d)
 fragment_more d key h i stream fragment same lt so_far next =
     let long : length (plain d) ≡ 256 * fragment_count h = length-plain d key ∙ ap (λ (g : Header). 256 * fragment_count g) (sym same) in
-    (λ j. so_far j ++ next j) ∙ fragment_behind i (plain d) (omega (arith, long, lt))
+    (λ j. so_far j ++ next j) ∙ fragment_after i (plain d) (omega (arith, long, lt))
 
 -- all fragments are the stream
 pub all_fragments : (d : Doc) (key : List ℕ) (h : Header) (n : ℕ) (stream : List ℕ) → h ≡ document_header d key → n ≡ fragment_count h
@@ -58,11 +58,11 @@ all_fragments d key h n stream same count all =
     all ∙ take_all (256 * n) (plain d) (omega (arith, long))
 
 module _ (h : Header) (top key : List ℕ) (key_bytes : AreBytes 16 key) (range : IsInRange h) (kept : Option Kept) where
-  -- the header of settled reads is that of each document whose encoding has the root, unless there is a clash with it
+  -- the header of settled reads is that of each document whose file has the root, unless there is a clash with it
   header_is : (d : Doc) (reads : List StoreRead) → IsSettled h top kept reads → is_document d ≡ true → HasRoot d key (root_by h top) → reads_clash reads d key ≡ false → h ≡ document_header d key
   header_is d reads is document has none = header-agrees d key h top reads document key_bytes range is.header_is is.top_is has none
 
-  -- one fragment more of the stream of each document
+  -- one more fragment of the stream of each document
   pub first-more : (x more y : List StoreRead) (i : ℕ) (stream fragment : List ℕ) → IsSettled h top kept (since x) → y ≡ x ++ more → list_any is_start more ≡ false
       → i < fragment_count h → AreFirst (root_by h top) key i stream (since x) → IsFetched i h top key fragment (since y) → AreFirst (root_by h top) key (i + 1) (stream ++ fragment) (since y)
   first-more x more y i stream fragment is grown no_start lt so_far fetched d document has none =
@@ -82,13 +82,13 @@ module _ (h : Header) (top key : List ℕ) (key_bytes : AreBytes 16 key) (range 
         (same, all_fragments d key h n stream same count (all d document has none));
   }
 
--- ---- what is told of a store
+-- ---- what contracts see of a store
 
 still_some : {X : Type 0} (o : Option X) (P Q : X → Type 0) → IfSome o P → ((x : X) → P x → Q x) → IfSome o Q
 still_some None P Q p more = tt
 still_some (Some x) P Q p more = more x p
 
--- reads without a start are behind reads without one
+-- reads without a start, followed by reads without one, are without one
 pub grown-more : (a b c : Option (List StoreRead)) → Told a b (λ more. list_any is_start more ≡ false) → Told b c (λ more. list_any is_start more ≡ false) → Told a c (λ more. list_any is_start more ≡ false)
 grown-more a b c p q =
     Told-trans a b c (λ more. list_any is_start more ≡ false) (λ more. list_any is_start more ≡ false) (λ more. list_any is_start more ≡ false) p q
@@ -113,7 +113,7 @@ fetch_fault T i h top key bytes fault served ends =
     of_cause (WrongKey want made) reads c = c
     of_cause BadIndex reads c = c
 
--- how a stream ended that was not read
+-- how the reading of a stream ended in a fault
 pub ended_told : (result : Result (Vec ℕ Global) FileFault) (made fault : FileFault) → result ≡ Err made → made ≡ fault → (h : Header) (top key : List ℕ) (served : Option (List StoreRead))
     → IfSome served (λ all. IsStreamFault fault (since all)) → IfSome served (λ all. StreamEnds result h top key (since all))
 ended_told result made fault is same h top key served ends =
@@ -139,7 +139,7 @@ module _ (start now : Head) (same : now ≡ start) (kept : Option Kept) where
       by None is = tt
       by (Some all) is = settled-regular start.header start.top kept (since all) is
 
-  -- one fragment more
+  -- one more fragment
   pub first_told : (a b : Option (List StoreRead)) (fault : Option ReadFault) → fault ≡ None → Settled a now.header now.top kept fault → Told a b (λ more. list_any is_start more ≡ false)
       → (T : Type 0) (done : T) (i : ℕ) (stream fragment : List ℕ) → i < fragment_count start.header
       → IfSome a (λ all. AreFirst (root_by start.header start.top) start.key i stream (since all))
@@ -169,7 +169,7 @@ module _ (start now : Head) (same : now ≡ start) (kept : Option Kept) where
       by None is all = tt
       by (Some reads) is all = stream-read start.header start.top start.key start.key_bytes start.range kept (since reads) n stream is count all
 
-  -- ---- what a store gives that holds the file
+  -- ---- what a store that holds the file gives
 
   module _ (a b : Option (List ℕ)) (constant : b ≡ a) where
     held_now : (d : Doc) → HoldsDocument a d start.key → HoldsDocument b d now.key

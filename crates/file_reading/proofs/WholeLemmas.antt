@@ -1,4 +1,4 @@
--- What reads show of a whole file, and what is answered then.
+-- What the reads show of a whole file, and what the answer is then.
 use Rattle.std.proofs.Common.{◌≡◌, ℕ, ◌≤◌, true, false, List, [], ◌∷◌, length, map, refl, sym, ap, ◌∙◌, subst, ◌⊎◌, inl, inr, arith, true≢false}
 use Rattle.std.specs.Prelude.{Option, Some, None, Result, Ok, Err, is_some, option_map}
 use Rattle.sha2.specs.Sha256.{sha256}
@@ -10,14 +10,14 @@ use Rattle.merkle_chunks.specs.HeaderBytes.{fragment_count}
 use Rattle.merkle_chunks.specs.declared.header.Header.{Header}
 use Rattle.skip_decode.specs.StreamOf.{IsStreamOf}
 use Rattle.skip_decode.proofs.Documents.{one_document}
-use Rattle.fragment_open.specs.Checked.{AreOpeningsChecked}
-use Rattle.fragment_open.specs.Good.{AreGood}
+use Rattle.fragment_open.specs.Checked.{AllFoldUnlessRefused}
+use Rattle.fragment_open.specs.Good.{AllFoldAsWanted}
 use Rattle.fragment_open.specs.Hashed.{folded, folded_in}
 use Rattle.fragment_open.specs.Openings.{Opening, index_of, openings}
 use Rattle.fragment_open.specs.Plain.{plain_served}
 use Rattle.fragment_open.specs.Served.{fragments_served, header_served, root_served}
 use Rattle.fragment_open.specs.Starting.{IsNotStarted}
-use Rattle.fragment_open.specs.Told.{Told}
+use Rattle.fragment_open.specs.CallReads.{Told}
 use Rattle.fragment_open.proofs.CheckedLemmas.{unopened-checked}
 use Rattle.fragment_open.proofs.ClimbLemmas.{Told-weaker, cut-not_whole}
 use Rattle.fragment_open.proofs.FetchLemmas.{count_served, good-unrefused}
@@ -36,7 +36,7 @@ pub one_of : (d e : Doc) (stream : List ℕ) (h : Header) → IsStreamOf d strea
 one_of d e stream h one other =
     one_document d e one.document other.document one.within other.within (sym one.bytes ∙ other.bytes) (sym one.dictionary ∙ other.dictionary) (sym one.tree ∙ other.tree)
 
--- ---- a whole file is refused for nothing but its stream
+-- ---- a whole file is refused only for its stream
 
 module _ (root key : List ℕ) (h : Header) (top : List ℕ) (reads : List StoreRead) (w : IsWholeFile root key h top reads) where
   count : fragments_served reads ≡ fragment_count h
@@ -51,7 +51,7 @@ module _ (root key : List ℕ) (h : Header) (top : List ℕ) (reads : List Store
   unfinished-not (inr none) =
       by (openings reads) w.checked.good w.in_order (ap (λ (m : ℕ). folded_in sha256 m (openings reads)) (sym count) ∙ none)
     where
-      by : (os : List Opening) → AreGood sha256 (fragment_count h) top os → map index_of os ≡ numbers_below (fragment_count h) → folded_in sha256 (fragment_count h) os ≡ None → ⊥
+      by : (os : List Opening) → AllFoldAsWanted sha256 (fragment_count h) top os → map index_of os ≡ numbers_below (fragment_count h) → folded_in sha256 (fragment_count h) os ≡ None → ⊥
       by [] good order nothing = omega (arith, some_fragment, ap length order, length-numbers_below (fragment_count h))
       by (o ∷ os) good order nothing = true≢false (sym good.1 ∙ ap is_some nothing)
 
@@ -69,7 +69,7 @@ module _ (root key : List ℕ) (h : Header) (top : List ℕ) (reads : List Store
   whole-refused (WrongKey want made) c =
       absurd (c.3 (same_value want h.check (sym c.1 ∙ ap (option_map (λ (x : Header). x.check)) w.checked.header_is) ∙ sym w.check_is ∙ sym c.2))
 
--- ---- what is answered
+-- ---- the answer
 
 module _ (root key : List ℕ) (reads : List StoreRead) where
   of_served : (d : Doc) (g h : Header) → header_served reads ≡ Some g → header_served reads ≡ Some h → IsStreamOf d (plain_served key reads) g → IsStreamOf d (plain_served key reads) h
@@ -95,7 +95,7 @@ module _ (root key : List ℕ) (reads : List StoreRead) where
       let n = c.2 in
       absurd (n.no_stream d (of_served d s.header n.header s.whole_file.checked.header_is n.whole_file.checked.header_is s.stream))
 
--- ---- what is told of a store
+-- ---- what contracts see of a store
 
 module _ (root key : List ℕ) (result : Result Doc FileFault) (a b : Option (List StoreRead)) (told : Told a b (FileEnds result root key)) where
   pub no_document_told : Told a b (λ reads. IsRefusedWithoutDocument result root key reads)
@@ -107,7 +107,7 @@ module _ (root key : List ℕ) (result : Result Doc FileFault) (a b : Option (Li
 
 -- a start that was refused opened nothing
 pub not_started_checked : (root key : List ℕ) (fault : ReadFault) (a b : Option (List StoreRead)) → Told a b (IsNotStarted root key fault)
-    → (result : Result Doc FileFault) → Told a b (λ reads. AreOpeningsChecked (is_bad_fragment result) reads)
+    → (result : Result Doc FileFault) → Told a b (λ reads. AllFoldUnlessRefused (is_bad_fragment result) reads)
 not_started_checked root key fault a b told result =
-    Told-weaker a b (IsNotStarted root key fault) (λ reads. AreOpeningsChecked (is_bad_fragment result) reads) told
+    Told-weaker a b (IsNotStarted root key fault) (λ reads. AllFoldUnlessRefused (is_bad_fragment result) reads) told
     (λ t n. unopened-checked t (is_bad_fragment result) (no_openings t (few_reads root key fault t n.1)))

@@ -1,4 +1,4 @@
--- How the reading of a whole file ends, by the reads that its store served. This project's own.
+-- How the reading of a whole file ends, according to the reads that its store served. Defined by this project.
 use Rattle.std.specs.Prelude.{◌≡◌, ◌≢◌, ◌⊎◌, ℕ, ◌+◌, ◌*◌, ◌<◌, Bool, true, false, if◌then◌else◌, is_some, Result, Ok, Err, Option, Some, None, IfSome, option_map, option_and_then, List, [], ◌∷◌, ◌++◌, length, take, Vec}
 use Rattle.std.specs.declared.alloc.Global.{Global}
 use Rattle.std.specs.List.{list_all, slice_get}
@@ -11,7 +11,7 @@ use Rattle.acl_outside.specs.declared.read_fault.ReadFault.{ReadFault}
 use Rattle.acl_outside.specs.declared.read_fault.ReadFault.TheVariants.{BadFragment, BadHeader, BadIndex, StoreFault, StoreShort, WrongKey, WrongRoot}
 use Rattle.merkle_chunks.specs.File.{HasRoot, document_header, file_root, key_check}
 use Rattle.merkle_chunks.specs.declared.header.Header.{Header}
-use Rattle.fragment_open.specs.Checked.{AreChecked, refuses_fragment}
+use Rattle.fragment_open.specs.Checked.{AreVerifiedUnder, refuses_fragment}
 use Rattle.fragment_open.specs.Clash.{reads_clash}
 use Rattle.fragment_open.specs.Held.{IsQuietElse, IsStoreFault}
 use Rattle.fragment_open.specs.Hashed.{folded, wanted}
@@ -20,39 +20,39 @@ use Rattle.fragment_open.specs.Plain.{plain_served}
 use Rattle.fragment_open.specs.Served.{IsRegular, fragments_served, header_served, root_served, whole}
 use Rattle.fragment_open.specs.Settled.{IsFetchCause, root_by, since}
 use Rattle.fragment_open.specs.Starting.{HoldsDocument, IsStartCause}
-use Rattle.fragment_open.specs.Told.{IsCut, is_whole}
+use Rattle.fragment_open.specs.CallReads.{IsCut, is_whole}
 use Rattle.file_reading.specs.declared.fault.FileFault.{FileFault}
 use Rattle.file_reading.specs.declared.fault.FileFault.TheVariants.{NoMemory, Refused}
 use Rattle.file_reading.specs.WholeFile.{IsUnfinished, IsWholeFile, ShowsDocument, ShowsNoDocument, numbers_below}
 
 -- ---- documents that a file may be of
 
--- This is so of each document whose encoding under the key has the root, unless there is a clash:
--- some name has one string in what the reads hash and another in that encoding, with one digest.
+-- `holds` is true of each document whose file under the key has the root, unless there is a clash with it. In a clash
+-- some name has one string in what the reads hash and another one in that file, with one digest.
 abbrev pub OfEachDocument : List ℕ → List ℕ → List StoreRead → (Doc → Type 0) → Type 0
 OfEachDocument root key reads holds =
     (d : Doc) → is_document d ≡ true → HasRoot d key root → reads_clash reads d key ≡ false
     → holds d
 
--- This is so of the document whose file the store holds, under the key and with the root.
+-- `holds` is true of the document whose file the store holds, under the key and with the root.
 abbrev pub OfHeldDocument : Option (List ℕ) → List ℕ → List ℕ → (Doc → Type 0) → Type 0
 OfHeldDocument held root key holds =
     (d : Doc) → HoldsDocument held d key → file_root d key ≡ root → holds d
 
 -- ---- the whole reading
 
--- Reads ended in a document: they are the first of those that an opener makes and came whole, they
--- show it, and it is each one whose encoding has the root, unless there is a clash with that one.
+-- The reading ended in a document: the reads are regular and whole, and show this document. It is each document whose
+-- file has the root, unless there is a clash with that one.
 pub record IsFileRead (root key : List ℕ) (doc : Doc) (reads : List StoreRead) : Type 0 where
   pub regular : IsRegular reads
   pub all_whole : list_all is_whole reads ≡ true
   pub shows : ShowsDocument root key doc reads
   pub gives : OfEachDocument root key reads (λ d. doc ≡ d)
 
--- why a file was refused, by its reads: one came short; all came whole, are unfinished, and the store
--- failed; all came whole, and the newest opening folds to another digest than the wanted one; all
--- came whole and show no document, and each document whose encoding has the root has a clash with
--- them; or it was refused by its header, root or key
+-- Why a file was refused, according to its reads. `StoreShort`: the last read is short. `StoreFault`: all are whole,
+-- and they are unfinished. `BadFragment`: all are whole, and the newest opening folds to another digest than the
+-- wanted one. `BadIndex`: all are whole and show a whole file of no document, and each document whose file has the
+-- root has a clash with them. The other refusals have the causes of a start.
 abbrev pub IsFileCause : List ℕ → List ℕ → ReadFault → List StoreRead → Type 0
 IsFileCause root key (StoreShort to) reads = IsCut to reads
 IsFileCause root key StoreFault reads = (list_all is_whole reads ≡ true) × IsUnfinished reads
@@ -66,24 +66,24 @@ IsFileCause root key BadHeader reads = IsStartCause root key BadHeader reads
 IsFileCause root key (WrongRoot want made) reads = IsStartCause root key (WrongRoot want made) reads
 IsFileCause root key (WrongKey want made) reads = IsStartCause root key (WrongKey want made) reads
 
--- how the reading of a file under a root and a key ended, by its reads
+-- how the reading of a file under a root and a key ended, according to its reads
 abbrev pub FileEnds : Result Doc FileFault → List ℕ → List ℕ → List StoreRead → Type 0
 FileEnds (Ok doc) root key reads = IsFileRead root key doc reads
 FileEnds (Err (Refused fault)) root key reads = IsRegular reads × IsFileCause root key fault reads
 FileEnds (Err NoMemory) root key reads = IsRegular reads
 
--- ---- what is answered where the reads show why
+-- ---- what the answer is where the reads show a cause
 
--- the place at which the first read that came short ended, where there is one
+-- the byte offset at which the bytes of the first short read ended, where there is such a read
 abbrev pub first_short : List StoreRead → Option ℕ
 first_short [] = None
 first_short (read ∷ reads) =
     if is_whole read then first_short reads else Some (read.at + length read.bytes)
 
--- what reads alone show of a file under a root and a key: what was served as a header is none; the
--- root string served has another digest than the root; it has that one, and the key another check
--- than the header; a read came short; or the newest opening folds to another digest than the wanted
--- one
+-- What the reads alone show of a file under a root and a key. `BadHeader`: the first read gave 64 bytes that are not
+-- a header. `WrongRoot`: the root string served has another digest than the root. `WrongKey`: its digest is the root,
+-- and the key has another check than the header. `StoreShort`: the first short read ended at `to`. `BadFragment`: the
+-- newest opening folds to another digest than the wanted one.
 abbrev pub IsShown : List ℕ → List ℕ → ReadFault → List StoreRead → Type 0
 IsShown root key BadHeader reads =
     (is_some (option_and_then (whole 64) (slice_get reads 0)) ≡ true)
@@ -101,13 +101,13 @@ IsShown root key (BadFragment index want made) reads =
 IsShown root key StoreFault reads = ⊥
 IsShown root key BadIndex reads = ⊥
 
--- Where the reads show one of these, the file is refused for it and for nothing else. A failure of the store is shown by no
--- read; for a file of no document there is `IsRefusedWithoutDocument`.
+-- Where the reads show a cause of refusal, this is the answer, with its values. Reads don't show a failure of the
+-- store; for a file of no document there is `IsRefusedWithoutDocument`.
 abbrev pub IsRefusedWhereShown : {T : Type 0} → Result T FileFault → List ℕ → List ℕ → List StoreRead → Type 0
 IsRefusedWhereShown result root key reads =
     (fault : ReadFault) → IsShown root key fault reads → result ≡ Err (Refused fault)
 
--- a file was refused by BadIndex, or memory was wanting
+-- the answer is BadIndex or NoMemory
 abbrev pub IsBadIndexOrNoMemory : {T : Type 0} → Result T FileFault → Type 0
 IsBadIndexOrNoMemory (Ok value) = ⊥
 IsBadIndexOrNoMemory (Err NoMemory) = Unit {0}
@@ -119,24 +119,23 @@ IsBadIndexOrNoMemory (Err (Refused (StoreShort to))) = ⊥
 IsBadIndexOrNoMemory (Err (Refused StoreFault)) = ⊥
 IsBadIndexOrNoMemory (Err (Refused (BadFragment index want made))) = ⊥
 
--- the answer is this document, or memory was wanting
+-- the answer is this document or NoMemory
 abbrev pub IsDocumentOrNoMemory : Result Doc FileFault → Doc → Type 0
 IsDocumentOrNoMemory (Ok doc) d = doc ≡ d
 IsDocumentOrNoMemory (Err NoMemory) d = Unit {0}
 IsDocumentOrNoMemory (Err (Refused fault)) d = ⊥
 
--- Where the reads show that their file is of no document, it is refused for that; where memory is
--- wanting, that may be answered.
+-- Where the reads show that the file is of no document, the answer is BadIndex or NoMemory.
 abbrev pub IsRefusedWithoutDocument : {T : Type 0} → Result T FileFault → List ℕ → List ℕ → List StoreRead → Type 0
 IsRefusedWithoutDocument result root key reads =
     ShowsNoDocument root key reads → IsBadIndexOrNoMemory result
 
--- Where the reads show a document, it is the answer; where memory is wanting, that may be answered.
+-- Where the reads show a document, the answer is this document or NoMemory.
 abbrev pub IsGivenWhereShown : Result Doc FileFault → List ℕ → List ℕ → List StoreRead → Type 0
 IsGivenWhereShown result root key reads =
     (d : Doc) → ShowsDocument root key d reads → IsDocumentOrNoMemory result d
 
--- whether an answer is the refusal of a fragment, by what its opening folds to
+-- whether an answer is the refusal of a fragment by its digest
 abbrev pub is_bad_fragment : {T : Type 0} → Result T FileFault → Bool
 is_bad_fragment (Ok value) = false
 is_bad_fragment (Err (Refused fault)) = refuses_fragment fault
@@ -144,14 +143,15 @@ is_bad_fragment (Err NoMemory) = false
 
 -- ---- the order of the fragments
 
--- the fragments were opened in order from 0, each once: all of them after Ok, and else the first ones
+-- the openings are of the fragments in order from 0, one for each: of all fragments after Ok, and of the first ones
+-- after an error
 abbrev pub OpensInOrder : {T : Type 0} → Result T FileFault → List StoreRead → Type 0
 OpensInOrder (Ok value) reads = indexes reads ≡ numbers_below (fragments_served reads)
 OpensInOrder (Err fault) reads = (count : ℕ) × (indexes reads ≡ numbers_below count)
 
 -- ---- what a store that holds the file may give
 
--- a fault that a store which holds the file may give: its own failure, or want of memory
+-- a fault that a store which holds the file may give: its own failure, or out of memory
 abbrev pub IsHonestFault : FileFault → Type 0
 IsHonestFault (Refused fault) = IsStoreFault fault
 IsHonestFault NoMemory = Unit {0}
@@ -162,23 +162,22 @@ IsStoreFailure (Ok value) = ⊥
 IsStoreFailure (Err (Refused fault)) = IsStoreFault fault
 IsStoreFailure (Err NoMemory) = ⊥
 
--- Where the answer is another fault than the store's own failure, its count of faults is as it was.
+-- Where the fault is not the store's own failure, the store's count of faults is as it was.
 abbrev pub IsQuietFault : FileFault → ℕ → ℕ → Type 0
 IsQuietFault (Refused fault) before after = IsQuietElse fault before after
 IsQuietFault NoMemory before after = after ≡ before
 
 -- ---- the stream alone
 
--- Reads ended in a stream: they are the first of those that an opener makes and came whole, and
--- header and stream are those of each document whose encoding has the root, unless there is a clash with that
--- one.
+-- The reading ended in a stream: the reads are regular and whole. Header and stream are those of each document whose
+-- file has the root, unless there is a clash with that one.
 pub record IsStreamRead (header : Header) (root key stream : List ℕ) (reads : List StoreRead) : Type 0 where
   pub regular : IsRegular reads
   pub all_whole : list_all is_whole reads ≡ true
   pub gives : OfEachDocument root key reads
       (λ d. (header ≡ document_header d key) × (stream ≡ plain d))
 
--- why a fragment of a stream was refused, by its reads
+-- why a fragment of a stream was refused, according to the reads
 abbrev pub IsStreamCause : ReadFault → List StoreRead → Type 0
 IsStreamCause (BadFragment index want made) reads =
     IsFetchCause index (BadFragment index want made) reads
@@ -189,68 +188,68 @@ IsStreamCause (WrongRoot want made) reads = ⊥
 IsStreamCause (WrongKey want made) reads = ⊥
 IsStreamCause BadIndex reads = ⊥
 
--- why a stream was not read
+-- the reads are regular, and show why a stream was not read
 abbrev pub IsStreamFault : FileFault → List StoreRead → Type 0
 IsStreamFault (Refused fault) reads = IsRegular reads × IsStreamCause fault reads
 IsStreamFault NoMemory reads = IsRegular reads
 
--- how the reading of a stream ended, by its reads
+-- how the reading of a stream ended, according to the reads
 abbrev pub StreamEnds : Result (Vec ℕ Global) FileFault → Header → List ℕ → List ℕ → List StoreRead → Type 0
 StreamEnds (Ok stream) header top key reads =
     IsStreamRead header (root_by header top) key stream.items reads
 StreamEnds (Err fault) header top key reads = IsStreamFault fault reads
 
--- how it ended where the store holds the file of this document: in its stream, or by a fault that
--- such a store may give
+-- how the reading ended where the store holds the file of document `d`: in its stream, or with a fault that such a
+-- store may give
 abbrev pub HeldEnds : Result (Vec ℕ Global) FileFault → Doc → Type 0
 HeldEnds (Ok stream) d = stream.items ≡ plain d
 HeldEnds (Err fault) d = IsHonestFault fault
 
--- the first fragments of a stream are those of each document whose encoding has the root, unless
--- there is a clash with it
+-- `stream` is the first `count` fragments of the stream of each document whose file has the root, unless there is a
+-- clash with that document
 abbrev pub AreFirst : List ℕ → List ℕ → ℕ → List ℕ → List StoreRead → Type 0
 AreFirst root key count stream reads =
     OfEachDocument root key reads (λ d. stream ≡ take (256 * count) (plain d))
 
--- an opener that opened fragments before opened these in order from 0 behind them: all of them after
--- Ok, and else the first ones
-abbrev pub OpensBehind : {T : Type 0} → Result T FileFault → List ℕ → List StoreRead → Type 0
-OpensBehind (Ok value) before reads =
+-- the openings before are followed by those of the fragments in order from 0: of all fragments after Ok, and of the
+-- first ones after an error
+abbrev pub OpensAfter : {T : Type 0} → Result T FileFault → List ℕ → List StoreRead → Type 0
+OpensAfter (Ok value) before reads =
     indexes reads ≡ numbers_below (fragments_served reads) ++ before
-OpensBehind (Err fault) before reads =
+OpensAfter (Err fault) before reads =
     (count : ℕ) × (indexes reads ≡ numbers_below count ++ before)
 
--- this is so of what an opener opened since its start, where its store tells what it served
+-- this is true of the openings since an opener's start, where its store tells what it served
 abbrev pub GoesOnInOrder : {T : Type 0} → Result T FileFault → Option (List StoreRead) → Option (List StoreRead) → Type 0
 GoesOnInOrder result before after =
-    IfSome before (λ old. IfSome after (λ new. OpensBehind result (indexes (since old)) (since new)))
+    IfSome before (λ old. IfSome after (λ new. OpensAfter result (indexes (since old)) (since new)))
 
--- what an opener's further reads are of the file: after Ok they were checked, and the stream is the
--- plain bytes behind those of before; where the store failed, they opened fewer fragments than the
--- header served has, or the newest opening didn't come to its goal
-abbrev pub ReadsBehind : Result (Vec ℕ Global) FileFault → Header → List ℕ → List ℕ → List StoreRead → List StoreRead → Type 0
-ReadsBehind (Ok stream) header top key before reads =
-    AreChecked (root_by header top) header top reads
+-- What is true of an opener's reads after further reads of the file. After Ok they are checked against the root, and
+-- the stream follows the plain bytes opened before. After `StoreFault` there are fewer further openings than the header
+-- served has fragments, or the newest one didn't reach its goal.
+abbrev pub ReadsAfter : Result (Vec ℕ Global) FileFault → Header → List ℕ → List ℕ → List StoreRead → List StoreRead → Type 0
+ReadsAfter (Ok stream) header top key before reads =
+    AreVerifiedUnder (root_by header top) header top reads
     × (plain_served key reads ≡ plain_served key before ++ stream.items)
-ReadsBehind (Err (Refused StoreFault)) header top key before reads =
+ReadsAfter (Err (Refused StoreFault)) header top key before reads =
     (length (indexes reads) < fragments_served reads + length (indexes before))
     ⊎ (folded sha256 reads ≡ None)
-ReadsBehind (Err (Refused BadHeader)) header top key before reads = Unit {0}
-ReadsBehind (Err (Refused (WrongRoot want made))) header top key before reads = Unit {0}
-ReadsBehind (Err (Refused (WrongKey want made))) header top key before reads = Unit {0}
-ReadsBehind (Err (Refused (StoreShort to))) header top key before reads = Unit {0}
-ReadsBehind (Err (Refused (BadFragment index want made))) header top key before reads = Unit {0}
-ReadsBehind (Err (Refused BadIndex)) header top key before reads = Unit {0}
-ReadsBehind (Err NoMemory) header top key before reads = Unit {0}
+ReadsAfter (Err (Refused BadHeader)) header top key before reads = Unit {0}
+ReadsAfter (Err (Refused (WrongRoot want made))) header top key before reads = Unit {0}
+ReadsAfter (Err (Refused (WrongKey want made))) header top key before reads = Unit {0}
+ReadsAfter (Err (Refused (StoreShort to))) header top key before reads = Unit {0}
+ReadsAfter (Err (Refused (BadFragment index want made))) header top key before reads = Unit {0}
+ReadsAfter (Err (Refused BadIndex)) header top key before reads = Unit {0}
+ReadsAfter (Err NoMemory) header top key before reads = Unit {0}
 
--- this is so of what an opener read since its start, where its store tells what it served
+-- this is true of what an opener read since its start, where its store tells what it served
 abbrev pub GoesOnReading : Result (Vec ℕ Global) FileFault → Header → List ℕ → List ℕ → Option (List StoreRead) → Option (List StoreRead) → Type 0
 GoesOnReading result header top key before after =
     IfSome before (λ old. IfSome after (λ new.
-    ReadsBehind result header top key (since old) (since new)))
+    ReadsAfter result header top key (since old) (since new)))
 
--- what reads show of a stream: after Ok they show the whole file, and the stream is its plain bytes;
--- where the store failed, they are unfinished
+-- what the reads show of a stream: after Ok they show the whole file, and the stream is its plain bytes; after
+-- `StoreFault` they are unfinished
 abbrev pub StreamShown : Result (Vec ℕ Global) FileFault → Header → List ℕ → List ℕ → List StoreRead → Type 0
 StreamShown (Ok stream) header top key reads =
     IsWholeFile (root_by header top) key header top reads

@@ -1,3 +1,3 @@
-pub mod FileFaults
 pub mod WholeFile
 pub mod FileEnds
+pub mod inside

@@ -1,8 +1,8 @@
-//! Why a file is not read. Each answer has one cause.
+//! The errors of reading a file. Each error has one cause.
 
 ghost use Rattle.std.specs.Prelude.{◌≡◌};
 ghost use Rattle.file_reading.specs.declared.fault.FileFault.TheVariants as file;
-ghost use Rattle.file_reading.specs.FileFaults.{fault_of_index};
+ghost use Rattle.file_reading.specs.inside.FileFaults.{fault_of_index};
 
 use acl_outside::ReadFault;
 use std::alloc::{AllocError, AllocFailed};
@@ -11,7 +11,7 @@ use tag_dictionary::DictFault;
 /// Why a file is not read.
 #[derive(Clone, Copy, Debug, PartialEq, Eq)]
 pub enum FileFault {
-    /// What the store holds is refused, or the store failed.
+    /// The store's bytes were refused, or the store failed.
     Refused(ReadFault),
     /// There was no memory for the stream or the document.
     NoMemory,

@@ -1,11 +1,11 @@
-//! A whole file: the header and the top digest are checked against the root and the key, then each
-//! fragment is opened in order, and the stream is taken apart.
+//! Reads a whole file: checks the header and the top digest against the root and the key, opens each fragment in order,
+//! and decodes the stream.
 
 ghost use Rattle.std.specs.Prelude.{◌≡◌, true, IfOk, OnOk, IfErr, MatchResult};
 ghost use Rattle.acl_model.specs.Document.{is_document};
 ghost use Rattle.acl_outside.specs.Outside.{NotFallen, Rose};
-ghost use Rattle.fragment_open.specs.Checked.{AreOpeningsChecked};
-ghost use Rattle.fragment_open.specs.Told.{Told};
+ghost use Rattle.fragment_open.specs.Checked.{AllFoldUnlessRefused};
+ghost use Rattle.fragment_open.specs.CallReads.{Told};
 ghost use Rattle.file_reading.specs.FileEnds.{FileEnds, IsGivenWhereShown, IsHonestFault, IsQuietFault, IsRefusedWhereShown, IsRefusedWithoutDocument, IsStoreFailure, OfHeldDocument, OpensInOrder, is_bad_fragment};
 
 use crate::fault::FileFault;
@@ -16,11 +16,13 @@ use fragment_open::begin;
 use skip_decode::decode_all;
 use std::alloc::Global;
 
-/// Reads the document of a file under a root and a key. A store that holds it gives it. Another
-/// store gives it or is refused, unless two different strings of one digest are met. Whatever the
-/// root, its stream is what the fragments served are once they are checked and deciphered. It is
-/// refused as [`begin`] refuses it, then by its fragments, from 0 on, and last by `BadIndex`. The
-/// file's stream is read into one allocation.
+/// Reads the document of a file under a root and a key. If the store holds the file of a document with this root, the
+/// answer is this document, or an error of the store's failure or of missing memory. Whatever the store, a document
+/// that is returned is the one with this root, unless there is a clash: a collision of two strings with one digest.
+/// Whatever the root, it is the document whose stream the checked and deciphered fragments are.
+///
+/// The refusals are those of [`begin`], then those of the fragments from 0 on, and last `BadIndex`. The stream is read
+/// into one allocation.
 pub fn read_file<S: Store>(
     alloc: Global,
     store: &mut S,
@@ -36,7 +38,7 @@ pub fn read_file<S: Store>(
     ensures decoded { Told (S.served store.old) (S.served store.new)
         (λ reads. IsGivenWhereShown result root key reads) }
     ensures checked { Told (S.served store.old) (S.served store.new)
-        (λ reads. AreOpeningsChecked (is_bad_fragment result) reads) }
+        (λ reads. AllFoldUnlessRefused (is_bad_fragment result) reads) }
     ensures in_order { Told (S.served store.old) (S.served store.new) (OpensInOrder result) }
     ensures held { OfHeldDocument (S.holds store.old) root key (λ d. MatchResult result
         (λ doc. doc ≡ d)

@@ -1,4 +1,4 @@
-//! The document of a file that lies in a store which nobody trusts.
+//! Reads the document of a file from an untrusted store.
 #![tactic(auto)]
 
 mod fault;

@@ -1,10 +1,10 @@
-//! The plain stream of a file: its fragments in order, into one allocation.
+//! Reads the plain stream of a file: its fragments in order, into one allocation.
 
 ghost use Rattle.std.specs.Prelude.{◌≡◌, None, IfSome, OnOk, IfErr, false};
 ghost use Rattle.std.specs.List.{list_any};
 ghost use Rattle.acl_outside.specs.Outside.{NotFallen, Rose};
-ghost use Rattle.fragment_open.specs.Checked.{AreOpeningsChecked};
-ghost use Rattle.fragment_open.specs.Told.{Told};
+ghost use Rattle.fragment_open.specs.Checked.{AllFoldUnlessRefused};
+ghost use Rattle.fragment_open.specs.CallReads.{Told};
 ghost use Rattle.fragment_open.specs.Settled.{AreHeld, Settled, is_start, root_by, since};
 ghost use Rattle.file_reading.specs.FileEnds.{GoesOnInOrder, GoesOnReading, HeldEnds, IsQuietFault, IsRefusedWhereShown, IsStoreFailure, OfHeldDocument, OpensInOrder, StreamEnds, StreamShown, is_bad_fragment};
 
@@ -13,10 +13,10 @@ use acl_outside::Store;
 use fragment_open::{Head, Opener};
 use std::alloc::Global;
 
-/// The bytes of a fragment.
+/// The number of bytes of a fragment.
 const FRAGMENT: usize = 256;
 
-/// Fetches each fragment, in order from 0, by an opener that has refused none.
+/// Fetches each fragment, in order from 0, with an opener that has refused none.
 fn fetch_all<S: Store>(alloc: Global, opener: &mut Opener<'_, S>) -> Result<Vec<u8>, FileFault>
     requires { opener.old.fault ≡ None }
     ensures same_store { opener.new.store.ghost_name ≡ opener.old.store.ghost_name }
@@ -29,7 +29,7 @@ fn fetch_all<S: Store>(alloc: Global, opener: &mut Opener<'_, S>) -> Result<Vec<
     ensures in_order { GoesOnInOrder result
         (S.served opener.old.store.now) (S.served opener.new.store.now) }
     ensures checked { IfSome (S.served opener.new.store.now) (λ all.
-        AreOpeningsChecked (is_bad_fragment result) (since all)) }
+        AllFoldUnlessRefused (is_bad_fragment result) (since all)) }
     ensures reading { GoesOnReading result
         opener.old.head.header opener.old.head.top opener.old.head.key
         (S.served opener.old.store.now) (S.served opener.new.store.now) }
@@ -55,7 +55,7 @@ fn fetch_all<S: Store>(alloc: Global, opener: &mut Opener<'_, S>) -> Result<Vec<
     Ok(stream)
 }
 
-/// Reads each fragment, in order from 0, of a store that a head was read from.
+/// Reads each fragment, in order from 0, of a store whose head was read.
 pub(crate) fn read_stream<S: Store>(
     alloc: Global,
     store: &mut S,
@@ -71,7 +71,7 @@ pub(crate) fn read_stream<S: Store>(
         (root_by head.header head.top) head.key (since all)) }
     ensures in_order { IfSome (S.served store.new) (λ all. OpensInOrder result (since all)) }
     ensures checked { IfSome (S.served store.new) (λ all.
-        AreOpeningsChecked (is_bad_fragment result) (since all)) }
+        AllFoldUnlessRefused (is_bad_fragment result) (since all)) }
     ensures shown { IfSome (S.served store.new) (λ all.
         StreamShown result head.header head.top head.key (since all)) }
     ensures held { OfHeldDocument (S.holds store.old)

@@ -1,6 +1,6 @@
-//! The file of the document `(a`, `-hi`, `)a`, and stores that cut it, change it, or have another
-//! tree under right digests. Roots are those of the module `hashlib` of Python 3.11, over fragments
-//! that OpenSSL enciphered.
+//! Tests with the file of the document `(a`, `-hi`, `)a`, and with stores that cut it, change it, or have another tree
+//! with the right digests. The expected roots are those of the module `hashlib` of Python 3.11, over fragments that
+//! OpenSSL enciphered.
 
 use crate::{FileFault, read_file};
 use acl_model::Item;
@@ -13,25 +13,25 @@ use std::test::Fail;
 
 const KEY: [u8; 16] = [0, 1, 2, 3, 4, 5, 6, 7, 8, 9, 10, 11, 12, 13, 14, 15];
 
-/// The root of the file.
+/// The root of the test file.
 const ROOT: [u8; 32] = [
     0xd3, 0x44, 0x72, 0xf6, 0x28, 0xc9, 0xcb, 0x7e, 0x82, 0x92, 0x1b, 0xf1, 0x84, 0x0c, 0xf8, 0xd6,
     0xce, 0x4a, 0x11, 0xd5, 0xce, 0x0e, 0x69, 0x4e, 0x85, 0x9f, 0x4f, 0x4e, 0x91, 0xad, 0x8e, 0xb2,
 ];
 
-/// The root where the tree's first byte is 20 and not A0, in hexadecimal.
+/// The root of the file whose tree begins with the byte 0x20, not 0xA0.
 const OTHER_ROOT: [u8; 32] = [
     0x0a, 0x75, 0x3f, 0xcd, 0xd1, 0x19, 0x8f, 0x53, 0xe6, 0x5b, 0x40, 0x6e, 0x87, 0x96, 0xfe, 0x44,
     0xe7, 0x49, 0x6c, 0x47, 0x74, 0xe5, 0x75, 0x25, 0x09, 0x12, 0x86, 0x89, 0xaf, 0x69, 0xb3, 0xda,
 ];
 
-/// The digest of its only fragment, which is its top digest.
+/// The digest of the file's only fragment, which is its top digest.
 const TOP: [u8; 32] = [
     0x7e, 0xa1, 0x03, 0xbc, 0xf0, 0x3e, 0x34, 0x33, 0x1e, 0x16, 0xdc, 0x2b, 0x9e, 0xe5, 0xbd, 0x26,
     0xa2, 0x06, 0xa7, 0x59, 0x3a, 0xdb, 0x78, 0xd0, 0xbf, 0x73, 0x75, 0xe2, 0x46, 0x08, 0xc8, 0x3e,
 ];
 
-/// That digest where byte 100 of the file is another.
+/// The top digest where byte 100 of the file is changed.
 const CHANGED_TOP: [u8; 32] = [
     0xec, 0xfb, 0x84, 0xb9, 0xd9, 0xcf, 0xdf, 0x62, 0xb7, 0x5e, 0xce, 0x31, 0x00, 0x03, 0xb4, 0x49,
     0x95, 0x90, 0xd4, 0xdf, 0x71, 0xc9, 0x07, 0x2e, 0xd4, 0xd1, 0x45, 0x2e, 0x7f, 0x32, 0xd8, 0xcd,
@@ -47,7 +47,7 @@ const CHECK_OF_ZEROS: [u8; 16] = [
     0x48, 0xb9, 0xb3, 0x4b, 0x85, 0x1a, 0x03, 0x30, 0x2c, 0x02, 0xd0, 0x51, 0x9a, 0x1b, 0x74, 0x1b,
 ];
 
-/// The file with this first byte of its tree: 352 bytes, of which the last 32 are its only digest.
+/// The test file, with `first` as the first byte of its tree: 352 bytes, of which the last 32 are its only digest.
 fn file(alloc: Global, first: u8) -> Result<Vec<u8>, AllocError> {
     let header = Header {
         tree: 9,
@@ -70,13 +70,13 @@ fn file(alloc: Global, first: u8) -> Result<Vec<u8>, AllocError> {
 #[derive(Drop)]
 struct Failing {
     inner: SureStore,
-    /// How many reads are still good.
+    /// The number of reads that still succeed.
     good: u64,
     faults: u64,
 }
 
 impl Store for Failing {
-    ghost use Rattle.acl_outside.specs.Adapters.{unknown_bytes, unknown_reads};
+    ghost use Rattle.acl_outside.specs.inside.Adapters.{unknown_bytes, unknown_reads};
 
     ghost holds = { λ _. unknown_bytes };
 
@@ -111,8 +111,8 @@ fn a_file_gives_its_document(rt: HostRuntime) -> Result<(), Fail> {
 
 #[test]
 fn a_file_is_refused_by_its_first_fault(rt: HostRuntime) -> Result<(), Fail> {
-    // What was done to the file, its first byte of the tree, the place that is changed, where it is
-    // cut, the root and the key that it is read under, and what is met.
+    // The name of the case, the first byte of the tree, the offset of the changed byte, where the file is cut, the root
+    // and the key, and the expected fault.
     for (what, first, place, end, root, key, fault) in [
         (
             "cut to 351 bytes",
@@ -209,7 +209,7 @@ fn a_file_is_refused_by_its_first_fault(rt: HostRuntime) -> Result<(), Fail> {
     Ok(())
 }
 
-// A header, a top digest and one fragment: the fourth read is never asked for.
+// There are three reads: of the header, the top digest and one fragment. A fourth read is never made.
 #[test]
 fn a_failed_read_is_the_failure_of_the_store(rt: HostRuntime) -> Result<(), Fail> {
     let failure = Some(FileFault::Refused(ReadFault::StoreFault));

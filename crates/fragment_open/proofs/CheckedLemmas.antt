@@ -1,4 +1,4 @@
--- Openings were checked one by one, and the bytes that were given are those of the reads.
+-- Openings were checked one by one, and the bytes given are those of the reads.
 use Rattle.std.proofs.Common.{◌≡◌, ℕ, ◌/◌, ◌<◌, Bool, true, false, List, [], ◌∷◌, ◌++◌, drop, refl, sym, ap, ◌∙◌, subst, ◌⊎◌, inl, inr, append-nil, true≢false}
 use Rattle.std.specs.Prelude.{Option, Some, None, IfSome, Result, Ok, Err, if◌then◌else◌}
 use Rattle.std.specs.List.{list_any}
@@ -11,15 +11,15 @@ use Rattle.merkle_chunks.specs.Table.{top_level}
 use Rattle.merkle_chunks.specs.declared.header.Header.{Header}
 use Rattle.position_cipher.specs.Fragments.{unlocked_fragment}
 use Rattle.fragment_open.specs.declared.kept.Kept.{Kept}
-use Rattle.fragment_open.specs.Told.{Told}
+use Rattle.fragment_open.specs.CallReads.{Told}
 use Rattle.fragment_open.specs.Openings.{Opening, indexes, openings}
 use Rattle.fragment_open.specs.Plain.{plain_in, plain_of, plain_served}
 use Rattle.fragment_open.specs.Served.{fragments_served, header_served, top_served}
 use Rattle.fragment_open.specs.Hashed.{folded, folded_in}
-use Rattle.fragment_open.specs.Good.{AreGood}
-use Rattle.fragment_open.specs.Climbing.{IsAsked, IsNotOpened, IsOpened}
-use Rattle.fragment_open.specs.Settled.{AddsPlain, FoldAsWanted, IsSettled, OpensNone, Settled, goes_to_chunk, since, want_by}
-use Rattle.fragment_open.specs.Checked.{AreOpeningsChecked, refuses_fragment}
+use Rattle.fragment_open.specs.Good.{AllFoldAsWanted}
+use Rattle.fragment_open.specs.inside.Climbing.{IsAsked, IsNotOpened, IsOpened}
+use Rattle.fragment_open.specs.Settled.{AddsPlain, FoldAsWanted, IsSettled, CompletesNone, Settled, goes_to_chunk, since, want_by}
+use Rattle.fragment_open.specs.Checked.{AllFoldUnlessRefused, refuses_fragment}
 use Rattle.fragment_open.proofs.PathLemmas.{same_value}
 use Rattle.fragment_open.proofs.FetchLemmas.{count_served, folds_none, goal_is, header_more, not_opened-ends, opened, plain_is, settled-more, settled-unrefused, unrefused_without}
 use Rattle.fragment_open.proofs.SinceLemmas.{since-append, top_served-more}
@@ -27,26 +27,26 @@ use Rattle.fragment_open.proofs.TellLemmas.{not_opened-no_start, opened-no_start
 
 -- ---- by a header and a top digest that were served
 
-good_behind : (n : ℕ) (top : List ℕ) (os : List Opening) → AreGood sha256 n top os → AreGood sha256 n top (drop 1 os)
-good_behind n top [] good = good
-good_behind n top (o ∷ os) good = good.3
+good_after : (n : ℕ) (top : List ℕ) (os : List Opening) → AllFoldAsWanted sha256 n top os → AllFoldAsWanted sha256 n top (drop 1 os)
+good_after n top [] good = good
+good_after n top (o ∷ os) good = good.3
 
 module _ (h : Header) (top : List ℕ) (reads : List StoreRead) (header_is : header_served reads ≡ Some h) (top_is : top_served reads ≡ Some top) where
   -- openings before the newest that are good under what was served are good
-  checked_by : (refused : Bool) → AreGood sha256 (fragment_count h) top (drop 1 (openings reads)) → (refused ≡ false → FoldAsWanted reads) → AreOpeningsChecked refused reads
+  checked_by : (refused : Bool) → AllFoldAsWanted sha256 (fragment_count h) top (drop 1 (openings reads)) → (refused ≡ false → FoldAsWanted reads) → AllFoldUnlessRefused refused reads
   checked_by refused good newest = record {
     earlier = λ other found.
         let same : top ≡ other = same_value top other (sym top_is ∙ found) in
-        let P : ℕ → Type 0 = λ n. AreGood sha256 n other (drop 1 (openings reads)) in
-        let Q : List ℕ → Type 0 = λ d. AreGood sha256 (fragment_count h) d (drop 1 (openings reads)) in
+        let P : ℕ → Type 0 = λ n. AllFoldAsWanted sha256 n other (drop 1 (openings reads)) in
+        let Q : List ℕ → Type 0 = λ d. AllFoldAsWanted sha256 (fragment_count h) d (drop 1 (openings reads)) in
         subst P (sym (count_served h reads header_is)) (subst Q same good);
     newest = newest;
   }
 
 -- reads of an opener that refused none
-pub settled-checked : (h : Header) (top : List ℕ) (kept : Option Kept) (s : List StoreRead) (refused : Bool) → IsSettled h top kept s → AreOpeningsChecked refused s
+pub settled-checked : (h : Header) (top : List ℕ) (kept : Option Kept) (s : List StoreRead) (refused : Bool) → IsSettled h top kept s → AllFoldUnlessRefused refused s
 settled-checked h top kept s refused is =
-    checked_by h top s is.header_is is.top_is refused (good_behind (fragment_count h) top (openings s) is.good) (λ e. settled-unrefused h top kept s is)
+    checked_by h top s is.header_is is.top_is refused (good_after (fragment_count h) top (openings s) is.good) (λ e. settled-unrefused h top kept s is)
 
 -- reads that opened no fragment fold to nothing
 pub unopened-folds : (reads : List StoreRead) → openings reads ≡ [] → folded sha256 reads ≡ None
@@ -54,33 +54,33 @@ unfolding folded
 unopened-folds reads none = ap (folded_in sha256 (fragments_served reads)) none
 
 -- and so they were checked
-pub unopened-checked : (reads : List StoreRead) (refused : Bool) → openings reads ≡ [] → AreOpeningsChecked refused reads
+pub unopened-checked : (reads : List StoreRead) (refused : Bool) → openings reads ≡ [] → AllFoldUnlessRefused refused reads
 unopened-checked reads refused none = record {
   earlier = λ top found.
-      let P : List Opening → Type 0 = λ os. AreGood sha256 (fragments_served reads) top (drop 1 os) in
+      let P : List Opening → Type 0 = λ os. AllFoldAsWanted sha256 (fragments_served reads) top (drop 1 os) in
       subst P (sym none) tt;
   newest = λ e. unrefused_without reads (unopened-folds reads none);
 }
 
--- where no fragment is refused, no refusal stands in the reads, whatever is answered
-pub unrefused-checked : (reads : List StoreRead) (refused : Bool) → AreOpeningsChecked false reads → AreOpeningsChecked refused reads
+-- where no fragment is refused, the reads show no refusal, whatever the answer
+pub unrefused-checked : (reads : List StoreRead) (refused : Bool) → AllFoldUnlessRefused false reads → AllFoldUnlessRefused refused reads
 unrefused-checked reads refused checked = record { earlier = checked.earlier; newest = λ e. checked.newest refl }
 
--- ---- by one opening more
+-- ---- one more opening
 
 module _ (h : Header) (top : List ℕ) (kept : Option Kept) (s : List StoreRead) (is : IsSettled h top kept s) (i : ℕ) (lt : i < fragment_count h) where
   -- the openings before a further one were good
-  begun-checked : (l : ℕ) (o : Opening) (t : List StoreRead) → IsAsked (fragment_count h) i l o t → (refused : Bool) → (refused ≡ false → FoldAsWanted (s ++ t)) → AreOpeningsChecked refused (s ++ t)
+  begun-checked : (l : ℕ) (o : Opening) (t : List StoreRead) → IsAsked (fragment_count h) i l o t → (refused : Bool) → (refused ≡ false → FoldAsWanted (s ++ t)) → AllFoldUnlessRefused refused (s ++ t)
   begun-checked l o t a refused newest =
-      let P : List Opening → Type 0 = λ os. AreGood sha256 (fragment_count h) top (drop 1 os) in
+      let P : List Opening → Type 0 = λ os. AllFoldAsWanted sha256 (fragment_count h) top (drop 1 os) in
       checked_by h top (s ++ t) (header_more h top kept s is i lt t) (top_served-more s t top is.top_is) refused (subst P (sym (opened h top kept s is i lt l o t a)) is.good) newest
 
   not_opened-checked : (goal : ℕ) (fault : ReadFault) (t : List StoreRead) → goal ≡ (if goes_to_chunk (top_level (fragment_count h)) i kept then 4 else top_level (fragment_count h))
-      → IsNotOpened (fragment_count h) i goal fault t → AreOpeningsChecked (refuses_fragment fault) (s ++ t)
+      → IsNotOpened (fragment_count h) i goal fault t → AllFoldUnlessRefused (refuses_fragment fault) (s ++ t)
   not_opened-checked goal (StoreShort to) t aim f =
       begun-checked f.0.level f.0.opening t f.0.asked false (λ e. (not_opened-ends h top kept s is i lt goal (StoreShort to) t aim f).1.1)
   not_opened-checked goal StoreFault t aim (inl none) =
-      subst (AreOpeningsChecked false) (sym (ap (λ (l : List StoreRead). s ++ l) none ∙ append-nil s)) (settled-checked h top kept s false is)
+      subst (AllFoldUnlessRefused false) (sym (ap (λ (l : List StoreRead). s ++ l) none ∙ append-nil s)) (settled-checked h top kept s false is)
   not_opened-checked goal StoreFault t aim (inr f) =
       begun-checked f.0.level f.0.opening t f.0.asked false (λ e. (not_opened-ends h top kept s is i lt goal StoreFault t aim (inr f)).1.1)
   not_opened-checked goal _ t aim f = absurd f
@@ -97,23 +97,23 @@ module _ (h : Header) (top : List ℕ) (kept : Option Kept) (s : List StoreRead)
   plain-more l o t a key into same =
       ap (plain_in key) (opened h top kept s is i lt l o t a) ∙ ap (λ (p : List ℕ). plain_in key (openings s) ++ p) same
 
--- ---- what a store tells
+-- ---- what contracts see of a store
 
 module _ (h : Header) (top : List ℕ) (kept : Option Kept) (a b : Option (List StoreRead)) (is : Settled a h top kept None) (i : ℕ) (lt : i < fragment_count h) (goal : ℕ)
     (aim : goal ≡ (if goes_to_chunk (top_level (fragment_count h)) i kept then 4 else top_level (fragment_count h))) where
   module _ (fault : ReadFault) (told : Told a b (IsNotOpened (fragment_count h) i goal fault)) where
-    pub checked-ended : IfSome b (λ all. AreOpeningsChecked (refuses_fragment fault) (since all))
+    pub checked-ended : IfSome b (λ all. AllFoldUnlessRefused (refuses_fragment fault) (since all))
     checked-ended = by_told a b is told
       where
-        by_told : (x y : Option (List StoreRead)) → Settled x h top kept None → Told x y (IsNotOpened (fragment_count h) i goal fault) → IfSome y (λ all. AreOpeningsChecked (refuses_fragment fault) (since all))
+        by_told : (x y : Option (List StoreRead)) → Settled x h top kept None → Told x y (IsNotOpened (fragment_count h) i goal fault) → IfSome y (λ all. AllFoldUnlessRefused (refuses_fragment fault) (since all))
         by_told None None s t = tt
         by_told None (Some y) s t = absurd t
         by_told (Some x) None s t = absurd t
         by_told (Some x) (Some y) s t =
             let same : since y ≡ since x ++ t.0 = ap since t.1 ∙ since-append x t.0 (not_opened-no_start (fragment_count h) i goal fault t.0 t.2) in
-            subst (AreOpeningsChecked (refuses_fragment fault)) (sym same) (not_opened-checked h top kept (since x) s i lt goal fault t.0 aim t.2)
+            subst (AllFoldUnlessRefused (refuses_fragment fault)) (sym same) (not_opened-checked h top kept (since x) s i lt goal fault t.0 aim t.2)
 
-    pub none-ended : ◌≡◌ {A = Result (Unit {0}) ReadFault} (Err fault) (Err StoreFault) → OpensNone a b
+    pub none-ended : ◌≡◌ {A = Result (Unit {0}) ReadFault} (Err fault) (Err StoreFault) → CompletesNone a b
     none-ended failed = by_told a b is (subst P store_failed told)
       where
         P : ReadFault → Type 0
@@ -122,7 +122,7 @@ module _ (h : Header) (top : List ℕ) (kept : Option Kept) (a b : Option (List 
         store_failed : fault ≡ StoreFault
         store_failed = cc
 
-        by_told : (x y : Option (List StoreRead)) → Settled x h top kept None → Told x y (IsNotOpened (fragment_count h) i goal StoreFault) → OpensNone x y
+        by_told : (x y : Option (List StoreRead)) → Settled x h top kept None → Told x y (IsNotOpened (fragment_count h) i goal StoreFault) → CompletesNone x y
         by_told None None s t = tt
         by_told None (Some y) s t = absurd t
         by_told (Some x) None s t = absurd t
@@ -132,27 +132,27 @@ module _ (h : Header) (top : List ℕ) (kept : Option Kept) (a b : Option (List 
             subst Q (sym same) (not_opened-none h top kept (since x) s i lt goal t.0 aim t.2)
 
   module _ (cipher chunk digest want : List ℕ) (told : Told a b (IsOpened (fragment_count h) i goal cipher chunk digest)) (by : want ≡ want_by (top_level (fragment_count h)) i kept top) where
-    pub checked-bad : IfSome b (λ all. AreOpeningsChecked true (since all))
+    pub checked-bad : IfSome b (λ all. AllFoldUnlessRefused true (since all))
     checked-bad = by_told a b is told
       where
-        by_told : (x y : Option (List StoreRead)) → Settled x h top kept None → Told x y (IsOpened (fragment_count h) i goal cipher chunk digest) → IfSome y (λ all. AreOpeningsChecked true (since all))
+        by_told : (x y : Option (List StoreRead)) → Settled x h top kept None → Told x y (IsOpened (fragment_count h) i goal cipher chunk digest) → IfSome y (λ all. AllFoldUnlessRefused true (since all))
         by_told None None s t = tt
         by_told None (Some y) s t = absurd t
         by_told (Some x) None s t = absurd t
         by_told (Some x) (Some y) s t =
             let same : since y ≡ since x ++ t.0 = ap since t.1 ∙ since-append x t.0 (opened-no_start (fragment_count h) i goal cipher chunk digest t.0 t.2) in
-            subst (AreOpeningsChecked true) (sym same) (begun-checked h top kept (since x) s i lt goal t.2.opening t.0 t.2.asked true (λ e. absurd (true≢false e)))
+            subst (AllFoldUnlessRefused true) (sym same) (begun-checked h top kept (since x) s i lt goal t.2.opening t.0 t.2.asked true (λ e. absurd (true≢false e)))
 
-    pub checked-fetched : digest ≡ want → IfSome b (λ all. AreOpeningsChecked false (since all))
+    pub checked-fetched : digest ≡ want → IfSome b (λ all. AllFoldUnlessRefused false (since all))
     checked-fetched good = by_told a b is told
       where
-        by_told : (x y : Option (List StoreRead)) → Settled x h top kept None → Told x y (IsOpened (fragment_count h) i goal cipher chunk digest) → IfSome y (λ all. AreOpeningsChecked false (since all))
+        by_told : (x y : Option (List StoreRead)) → Settled x h top kept None → Told x y (IsOpened (fragment_count h) i goal cipher chunk digest) → IfSome y (λ all. AllFoldUnlessRefused false (since all))
         by_told None None s t = tt
         by_told None (Some y) s t = absurd t
         by_told (Some x) None s t = absurd t
         by_told (Some x) (Some y) s t =
             let same : since y ≡ since x ++ t.0 = ap since t.1 ∙ since-append x t.0 (opened-no_start (fragment_count h) i goal cipher chunk digest t.0 t.2) in
-            subst (AreOpeningsChecked false) (sym same)
+            subst (AllFoldUnlessRefused false) (sym same)
             (settled-checked h top (Some (record { chunk = i / 16; digest = chunk })) (since x ++ t.0) false
             (settled-more h top kept (since x) s i lt goal cipher chunk digest want t.0 t.2 aim by good))
 

@@ -77,7 +77,7 @@ module _ (hash : List ℕ → List ℕ) (ours theirs : List (StringName × List 
         | false ↦ λ yes no'. absurd (true≢false (sym (clash_found (record { name = name; one = one; other = other; here = here; there = there; different = λ e. true≢false (sym (no' e)); same_digest = same })) ∙ none))
       ] (bytes_eq-Decides one other).0 (bytes_eq-Decides one other).1
 
-  -- and where they are always equal, nothing clashes
+  -- and where such strings are always equal, there is no clash
   pub no_clash : ((name : StringName) (one other : List ℕ) → Contains ours (name, one) → Contains theirs (name, other) → one ≡ other) → has_clash hash ours theirs ≡ false
   no_clash same =
       elim (has_clash hash ours theirs) as (λ (v : Bool). (v ≡ true → IsClash hash ours theirs) → v ≡ false) [
@@ -85,7 +85,7 @@ module _ (hash : List ℕ → List ℕ) (ours theirs : List (StringName × List 
         | false ↦ λ found. refl
       ] found_clash
 
--- ---- comparisons of the code
+-- ---- comparisons in the code
 
 pub bytes_differ : (a b : List ℕ) → true ≡ not (bytes_eq a b) → a ≢ b
 bytes_differ a b h same = true≢false (sym ((bytes_eq-Decides a b).1 same) ∙ not_true (bytes_eq a b) (sym h))

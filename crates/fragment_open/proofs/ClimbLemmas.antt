@@ -1,4 +1,4 @@
--- One level more of an opening: what its reads say then.
+-- What the reads of an opening show after one more level.
 use Rattle.std.proofs.Common.{◌≡◌, ℕ, zero, suc, ◌+◌, ◌*◌, ◌<◌, ◌≤◌, Bool, true, false, ◌&&◌, List, [], ◌∷◌, ◌++◌, length, map, refl, sym, ap, ◌∙◌, subst, inl, inr, arith, add-one, length-append, append_assoc, append-nil, true≢false}
 use Rattle.std.specs.Prelude.{Option, Some, None, is_some, nat_eq, option_map, option_and_then, if◌then◌else◌}
 use Rattle.std.specs.List.{list_all, slice_get}
@@ -13,13 +13,13 @@ use Rattle.fragment_open.specs.Openings.{Opening, index_of}
 use Rattle.fragment_open.specs.Asks.{ask_of, has_sibling, index_at, sibling_ask, sibling_asks, siblings_below}
 use Rattle.fragment_open.specs.Served.{whole}
 use Rattle.fragment_open.specs.Hashed.{digest_at, parent_string, sibling_digest, string_at}
-use Rattle.fragment_open.specs.Told.{IsCut, Told, is_whole}
-use Rattle.fragment_open.specs.Climbing.{Climbs, Ends, IsAsked, IsBegun, IsClimbed, IsEnded, IsSibling, LacksSibling}
+use Rattle.fragment_open.specs.CallReads.{IsCut, Told, is_whole}
+use Rattle.fragment_open.specs.inside.Climbing.{Climbs, Ends, IsAsked, IsBegun, IsClimbed, IsEnded, IsSibling, LacksSibling}
 use Rattle.fragment_open.proofs.ClashLemmas.{both_true, and_true}
 use Rattle.fragment_open.proofs.TreeLemmas.{if_true, if_false}
 use Rattle.fragment_open.proofs.PathLemmas.{chained, got, mapped, string_at-above, string_at-below}
 
--- ---- what is told
+-- ---- what contracts see of reads
 
 pub Told-trans : (a b c : Option (List StoreRead)) (P Q R : List StoreRead → Type 0) → Told a b P → Told b c Q → ((t u : List StoreRead) → P t → Q u → R (t ++ u)) → Told a c R
 Told-trans None None None P Q R p q both = tt
@@ -47,10 +47,10 @@ slice_get-longer [] ys k x h = absurd (true≢false (sym (ap is_some h)))
 slice_get-longer (y ∷ xs) ys zero x h = h
 slice_get-longer (y ∷ xs) ys (suc k) x h = slice_get-longer xs ys k x h
 
-pub slice_get-behind : {X : Type 0} (xs ys : List X) (k : ℕ) → k ≡ length xs → slice_get (xs ++ ys) k ≡ slice_get ys 0
-slice_get-behind [] ys k h = ap (slice_get ys) h
-slice_get-behind (x ∷ xs) ys zero h = absurd (omega (arith, h))
-slice_get-behind (x ∷ xs) ys (suc k) h = slice_get-behind xs ys k (omega (arith, h))
+pub slice_get-after : {X : Type 0} (xs ys : List X) (k : ℕ) → k ≡ length xs → slice_get (xs ++ ys) k ≡ slice_get ys 0
+slice_get-after [] ys k h = ap (slice_get ys) h
+slice_get-after (x ∷ xs) ys zero h = absurd (omega (arith, h))
+slice_get-after (x ∷ xs) ys (suc k) h = slice_get-after xs ys k (omega (arith, h))
 
 pub all_whole-append : (xs ys : List StoreRead) → list_all is_whole xs ≡ true → list_all is_whole ys ≡ true → list_all is_whole (xs ++ ys) ≡ true
 all_whole-append [] ys a b = b
@@ -66,7 +66,7 @@ length-map_ask (x ∷ xs) = ap (λ (n : ℕ). suc n) (length-map_ask xs)
 
 -- ---- openings
 
--- an opening with further reads behind its siblings
+-- an opening with further reads after its siblings
 abbrev pub with_more : Opening → List StoreRead → Opening
 with_more o more = record { leaf = o.leaf; siblings = o.siblings ++ more }
 
@@ -97,7 +97,7 @@ sibling_digest-more n o more l s h =
       | false ↦ λ e. e
     ] h
 
--- more siblings change no string that is there
+-- more siblings change no string that there is
 pub string_at-more : (n : ℕ) (o : Opening) (more : List StoreRead) (l : ℕ) (x : List ℕ) → string_at sha256 n o l ≡ Some x → string_at sha256 n (with_more o more) l ≡ Some x
 unfolding string_at
 string_at-more n o more zero x h = h
@@ -123,10 +123,10 @@ climb_more n i l d s reads more c b =
     let index : index_of o ≡ i = asked-index n i l o reads c.asked in
     let x = mapped sha256 (string_at sha256 n o l) d c.folds in
     let count : siblings_below n i l ≡ length o.siblings = sym (sym (length-map_ask o.siblings) ∙ ap length c.asked.siblings ∙ length-sibling_asks n i l) in
-    let behind : slice_get (o.siblings ++ more) (siblings_below n i l) ≡ slice_get more 0 = slice_get-behind o.siblings more (siblings_below n i l) count in
+    let after : slice_get (o.siblings ++ more) (siblings_below n i l) ≡ slice_get more 0 = slice_get-after o.siblings more (siblings_below n i l) count in
     let digest : sibling_digest n (with_more o more) l ≡ Some s =
     (λ j. if has_sibling n (index j) l then option_and_then (whole 32) (slice_get (o.siblings ++ more) (siblings_below n (index j) l)) else Some absent_child)
-    ∙ ap (λ (r : Option StoreRead). if has_sibling n i l then option_and_then (whole 32) r else Some absent_child) behind ∙ b.gives in
+    ∙ ap (λ (r : Option StoreRead). if has_sibling n i l then option_and_then (whole 32) r else Some absent_child) after ∙ b.gives in
     record {
       opening = with_more o more;
       asked = more_asked n i l o reads more c.asked b.asked;
@@ -137,9 +137,9 @@ climb_more n i l d s reads more c b =
           ∙ (λ j. Some (sha256 (parent_string (index_at (index j) l) (x.2 j) s)));
     }
 
--- behind reads that came whole, reads that were cut are cut
-pub cut-behind : (to : ℕ) (reads more : List StoreRead) → list_all is_whole reads ≡ true → IsCut to more → IsCut to (reads ++ more)
-cut-behind to reads more are c = record {
+-- whole reads followed by reads that were cut are reads that were cut
+pub cut-after : (to : ℕ) (reads more : List StoreRead) → list_all is_whole reads ≡ true → IsCut to more → IsCut to (reads ++ more)
+cut-after to reads more are c = record {
   before = reads ++ c.before;
   last = c.last;
   all = ap (λ (l : List StoreRead). reads ++ l) c.all ∙ sym (append_assoc reads c.before (c.last ∷ []));
@@ -148,7 +148,7 @@ cut-behind to reads more are c = record {
   place = c.place;
 }
 
--- ---- reads that came short
+-- ---- short reads
 
 pub less-neq : (a b : ℕ) → a < b → nat_eq a b ≡ false
 less-neq a b less =
@@ -165,15 +165,15 @@ and_one : (v : Bool) → (v && true) ≡ v
 and_one true = refl
 and_one false = refl
 
--- reads that were cut did not all come whole
+-- reads that were cut are not all whole
 pub cut-not_whole : (to : ℕ) (reads : List StoreRead) → IsCut to reads → list_all is_whole reads ≡ false
-cut-not_whole to reads c = ap (list_all is_whole) c.all ∙ behind c.before
+cut-not_whole to reads c = ap (list_all is_whole) c.all ∙ after c.before
   where
-    behind : (before : List StoreRead) → list_all is_whole (before ++ (c.last ∷ [])) ≡ false
-    behind [] = ap (λ (v : Bool). v && true) (less-neq (length c.last.bytes) c.last.asked c.short)
-    behind (x ∷ before) = ap (λ (v : Bool). is_whole x && v) (behind before) ∙ and_false (is_whole x)
+    after : (before : List StoreRead) → list_all is_whole (before ++ (c.last ∷ [])) ≡ false
+    after [] = ap (λ (v : Bool). v && true) (less-neq (length c.last.bytes) c.last.asked c.short)
+    after (x ∷ before) = ap (λ (v : Bool). is_whole x && v) (after before) ∙ and_false (is_whole x)
 
--- a lone read that came short gave no bytes of its size
+-- a single read that is short did not give the bytes that were asked for
 pub one_short : (size : ℕ) (r : StoreRead) → r.asked ≡ size → list_all is_whole (r ∷ []) ≡ false → whole size r ≡ None
 one_short size r asked short =
     if_false (nat_eq (length r.bytes) size) (Some r.bytes) None
@@ -183,7 +183,7 @@ abbrev pub first_asked : List (ℕ × ℕ) → ℕ
 first_asked [] = 0
 first_asked (a ∷ asks) = a.1
 
--- a sibling's read that came short is of one that the table has, and gave no digest
+-- a short read of a sibling is of one that the table has, and gave no digest
 cut_sibling : (n i l : ℕ) (more : List StoreRead) → map ask_of more ≡ sibling_ask n i l → list_all is_whole more ≡ false
     → (has_sibling n i l ≡ true) × (option_and_then (whole 32) (slice_get more 0) ≡ None)
 cut_sibling n i l more same short =
@@ -212,13 +212,13 @@ none_unless : {A : Type 0} (o : Option A) → ((x : A) → o ≡ Some x → ⊥)
 none_unless None no'where = refl
 none_unless (Some x) no'where = absurd (no'where x refl)
 
--- without the fragment's bytes there is none
+-- without the fragment's bytes there is no digest
 pub lacks_leaf : (n : ℕ) (o : Opening) → nat_eq (length o.leaf.bytes) 256 ≡ false → digest_at sha256 n o 0 ≡ None
 unfolding string_at
 lacks_leaf n o short =
     ap (λ (b : Option (List ℕ)). option_map sha256 (option_map (leaf_string (index_of o)) b)) (if_false (nat_eq (length o.leaf.bytes) 256) (Some o.leaf.bytes) None short)
 
--- without a sibling that the table has there is none on the level above
+-- without a sibling that the table has there is no digest on the level above
 lacks_above : (n : ℕ) (o : Opening) (l : ℕ) → has_sibling n (index_of o) l ≡ true → option_and_then (whole 32) (slice_get o.siblings (siblings_below n (index_of o) l)) ≡ None
     → digest_at sha256 n o (suc l) ≡ None
 lacks_above n o l has none =
@@ -229,7 +229,7 @@ lacks_above n o l has none =
     if_true (has_sibling n (index_of o) l) (option_and_then (whole 32) (slice_get o.siblings (siblings_below n (index_of o) l))) (Some absent_child) has ∙ none in
     true≢false (sym (ap is_some (sym absent ∙ parts.3))))
 
--- and where there is none on a level, there is none higher
+-- and where there is no digest on a level, there is none higher
 pub lacks_higher : (n : ℕ) (o : Opening) (low high : ℕ) → low ≤ high → digest_at sha256 n o low ≡ None → digest_at sha256 n o high ≡ None
 lacks_higher n o low high le none =
     none_unless (digest_at sha256 n o high) (λ d there.
@@ -243,16 +243,16 @@ ends_here n i l d (StoreShort to) more h reads c =
     let o : Opening = c.opening in
     let cut = cut_sibling n i l more h.0 (cut-not_whole to more h.1) in
     let index : index_of o ≡ i = asked-index n i l o reads c.asked in
-    let behind : slice_get (o.siblings ++ more) (siblings_below n (index_of o) l) ≡ slice_get more 0 =
-    slice_get-behind o.siblings more (siblings_below n (index_of o) l) (siblings_taken n i l o reads c.asked) in (
+    let after : slice_get (o.siblings ++ more) (siblings_below n (index_of o) l) ≡ slice_get more 0 =
+    slice_get-after o.siblings more (siblings_below n (index_of o) l) (siblings_taken n i l o reads c.asked) in (
       record {
         opening = with_more o more;
         level = suc l;
         low = omega arith;
         asked = more_asked n i l o reads more c.asked h.0;
-        lacks = lacks_above n (with_more o more) l (ap (λ (k : ℕ). has_sibling n k l) index ∙ cut.0) (ap (option_and_then (whole 32)) behind ∙ cut.1);
+        lacks = lacks_above n (with_more o more) l (ap (λ (k : ℕ). has_sibling n k l) index ∙ cut.0) (ap (option_and_then (whole 32)) after ∙ cut.1);
       },
-      cut-behind to reads more c.all_whole h.1,
+      cut-after to reads more c.all_whole h.1,
     )
 ends_here n i l d StoreFault more h reads c =
     let o : Opening = c.opening in
@@ -293,11 +293,11 @@ Climbs-none n i l d reads c = subst (IsClimbed n i l d) (sym (append-nil reads))
 pub Climbs-trans : (n i l m h : ℕ) (d e f : List ℕ) (t u : List StoreRead) → Climbs n i l d m e t → Climbs n i m e h f u → Climbs n i l d h f (t ++ u)
 Climbs-trans n i l m h d e f t u a b reads c = subst (IsClimbed n i h f) (append_assoc reads t u) (b (reads ++ t) (a reads c))
 
-pub Ends-behind : (n i l m goal high : ℕ) (d e : List ℕ) (fault : ReadFault) (t u : List StoreRead) → goal ≤ high → Climbs n i l d m e t → Ends n i m e goal fault u → Ends n i l d high fault (t ++ u)
-Ends-behind n i l m goal high d e fault t u le a b reads c =
+pub Ends-after : (n i l m goal high : ℕ) (d e : List ℕ) (fault : ReadFault) (t u : List StoreRead) → goal ≤ high → Climbs n i l d m e t → Ends n i m e goal fault u → Ends n i l d high fault (t ++ u)
+Ends-after n i l m goal high d e fault t u le a b reads c =
     subst (IsEnded n i high fault) (append_assoc reads t u) (ends_higher n i goal high fault ((reads ++ t) ++ u) le (b (reads ++ t) (a reads c)))
 
--- ---- as the code says it
+-- ---- in the form of the code's contracts
 
 pub ends_step : (n i l : ℕ) (d : List ℕ) (fault : ReadFault) (more : List StoreRead) → LacksSibling n i l fault more → Ends n i l d (l + 1) fault more
 ends_step n i l d fault more h = let P : ℕ → Type 0 = λ m. Ends n i l d m fault more in subst P (sym (add-one l)) (ends_here n i l d fault more h)
@@ -322,4 +322,4 @@ told_end a b c n i n' i' l m goal high d e fault same_n same_i le p q =
     (λ t u here there.
     let P : ℕ → Type 0 = λ k. Ends k i' m e goal fault u in
     let Q : ℕ → Type 0 = λ k. Ends n k m e goal fault u in
-    Ends-behind n i l m goal high d e fault t u le here (subst Q same_i (subst P same_n there)))
+    Ends-after n i l m goal high d e fault t u le here (subst Q same_i (subst P same_n there)))

@@ -23,7 +23,7 @@ use Rattle.position_cipher.specs.Fragments.{unlocked_fragment}
 use Rattle.fragment_open.specs.Openings.{Opening, index_of, openings}
 use Rattle.fragment_open.specs.Served.{fragments_served, header_served, root_served, top_served}
 use Rattle.fragment_open.specs.Hashed.{hashed, hashed_in}
-use Rattle.fragment_open.specs.Good.{AreGood}
+use Rattle.fragment_open.specs.Good.{AllFoldAsWanted}
 use Rattle.fragment_open.specs.Clash.{has_clash, reads_clash}
 use Rattle.fragment_open.specs.Settled.{root_by}
 use Rattle.fragment_open.proofs.KeyLemmas.{fragment-agrees, root-agrees}
@@ -81,17 +81,17 @@ module _ (d : Doc) (key : List ℕ) (h : Header) (top : List ℕ) (reads : List 
       Contains-append_right (option_to_list (option_map (λ s. (root, s)) (root_served reads))) (hashed_in sha256 (fragments_served reads) (openings reads)) s (subst P (sym fragments_same) within)
 
   -- the newest opening read the file's fragment
-  pub newest-agrees : (o : Opening) (before : List Opening) → openings reads ≡ o ∷ before → AreGood sha256 (fragment_count h) top (openings reads) → o.leaf.bytes ≡ get_or (cipher_fragments d key) (index_of o) []
+  pub newest-agrees : (o : Opening) (before : List Opening) → openings reads ≡ o ∷ before → AllFoldAsWanted sha256 (fragment_count h) top (openings reads) → o.leaf.bytes ≡ get_or (cipher_fragments d key) (index_of o) []
   newest-agrees o before newest good =
-      let P : List Opening → Type 0 = λ os. AreGood sha256 (fragment_count h) top os in
-      let Q : ℕ → Type 0 = λ n. AreGood sha256 n top (o ∷ before) in
+      let P : List Opening → Type 0 = λ os. AllFoldAsWanted sha256 (fragment_count h) top os in
+      let Q : ℕ → Type 0 = λ n. AllFoldAsWanted sha256 n top (o ∷ before) in
       let R : List Opening → Type 0 = λ os. (s : StringName × List ℕ) → Contains (hashed_in sha256 (length (cipher_fragments d key)) os) s → Contains (hashed sha256 reads) s in
       fragment-agrees sha256 length-sha256 (cipher_fragments d key) some (header_bytes (document_header d key)) long (hashed sha256 reads) agrees top o before both.1
       (subst Q (ap fragment_count header-agrees ∙ sym count) (subst P newest good))
       (subst R newest opened_there)
 
-  -- so what is unlocked is the document's
-  pub fragment_is : (i : ℕ) (o : Opening) (before : List Opening) (bytes into : List ℕ) → i < fragment_count h → index_of o ≡ i → o.leaf.bytes ≡ bytes → openings reads ≡ o ∷ before → AreGood sha256 (fragment_count h) top (openings reads)
+  -- so the deciphered bytes are the document's
+  pub fragment_is : (i : ℕ) (o : Opening) (before : List Opening) (bytes into : List ℕ) → i < fragment_count h → index_of o ≡ i → o.leaf.bytes ≡ bytes → openings reads ≡ o ∷ before → AllFoldAsWanted sha256 (fragment_count h) top (openings reads)
       → into ≡ unlocked_fragment key i bytes → into ≡ get_or (fragments (plain d)) i []
   fragment_is i o before bytes into lt index same newest good unlocked =
       let within : i < length (cipher_fragments d key) = omega (arith, lt, count, ap fragment_count header-agrees) in

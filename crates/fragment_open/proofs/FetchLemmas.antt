@@ -1,4 +1,4 @@
--- One opening more: what an opener's reads say then.
+-- What an opener's reads show after one more opening.
 use Rattle.std.proofs.Common.{◌≡◌, ◌≢◌, ℕ, zero, suc, ◌/◌, ◌<◌, ◌≤◌, Bool, true, false, ◌&&◌, ◌||◌, List, [], ◌∷◌, ◌++◌, length, take, map, get_or, refl, sym, ap, ◌∙◌, subst, ◌⊎◌, inl, inr, arith, append_assoc, append-nil, true≢false}
 use Rattle.std.specs.Prelude.{Result, Ok, Err, MatchResult, IfOk, Option, Some, None, nat_eq, nat_lt, if◌then◌else◌, is_some}
 use Rattle.std.specs.List.{list_all}
@@ -27,9 +27,9 @@ use Rattle.fragment_open.specs.Plain.{newest_plain, plain_of}
 use Rattle.fragment_open.specs.Asks.{ask_of, goal_level, index_at, leaf_ask, same_chunk, sibling_ask, sibling_asks, to_chunk}
 use Rattle.fragment_open.specs.Served.{IsRegular, asks_by, fragments_served, header_served, top_served}
 use Rattle.fragment_open.specs.Hashed.{chunk_digest, digest_at, folded, folded_in, wanted, wanted_in}
-use Rattle.fragment_open.specs.Good.{AreGood}
-use Rattle.fragment_open.specs.Told.{Told, is_whole}
-use Rattle.fragment_open.specs.Climbing.{IsAsked, IsNotOpened, IsOpened}
+use Rattle.fragment_open.specs.Good.{AllFoldAsWanted}
+use Rattle.fragment_open.specs.CallReads.{Told, is_whole}
+use Rattle.fragment_open.specs.inside.Climbing.{IsAsked, IsNotOpened, IsOpened}
 use Rattle.fragment_open.specs.Held.{IsOpenedHeld, IsStoreFault, digest_held}
 use Rattle.fragment_open.specs.Starting.{HoldsDocument, IsHead, IsHeadFault, IsHeadOf, IsNotStarted, IsStarted}
 use Rattle.fragment_open.specs.Settled.{AreHeld, FoldAsWanted, IsFetchCause, IsFetched, IsKept, IsKeptOf, IsSettled, Settled, goes_to_chunk, root_by, since, want_by}
@@ -37,7 +37,7 @@ use Rattle.fragment_open.proofs.ClashLemmas.{and_true, both_true}
 use Rattle.fragment_open.proofs.TreeLemmas.{if_true, if_false, index_at-chunk, index_at-lt}
 use Rattle.fragment_open.proofs.KeyLemmas.{either, goal_level-least}
 use Rattle.fragment_open.proofs.DocumentLemmas.{fragment_is}
-use Rattle.fragment_open.proofs.ClimbLemmas.{all_whole-append, and_false, asked-index, cut-behind, length-map_ask, map_ask-append}
+use Rattle.fragment_open.proofs.ClimbLemmas.{all_whole-append, and_false, asked-index, cut-after, length-map_ask, map_ask-append}
 use Rattle.fragment_open.proofs.StartLemmas.{no_openings}
 use Rattle.fragment_open.proofs.SinceLemmas.{since-start, header_served-more, openings-more, top_served-more, two_reads}
 
@@ -68,7 +68,7 @@ want-is n i (Some kept) top (o ∷ os) is =
 take_whole : (asks : List (ℕ × ℕ)) (n : ℕ) → n ≡ length asks → take n asks ≡ asks
 take_whole asks n same = ap (take n) (sym (append-nil asks)) ∙ take_at asks [] n (sym same)
 
-good-within : (n : ℕ) (top : List ℕ) (os : List Opening) → AreGood sha256 n top os → list_all (λ index. nat_lt index n) (map index_of os) ≡ true
+good-within : (n : ℕ) (top : List ℕ) (os : List Opening) → AllFoldAsWanted sha256 n top os → list_all (λ index. nat_lt index n) (map index_of os) ≡ true
 good-within n top [] good = refl
 good-within n top (o ∷ os) good = and_true (nat_lt (index_of o) n) (list_all (λ index. nat_lt index n) (map index_of os)) (lt-ltb (index_of o) n good.0) (good-within n top os good.3)
 
@@ -83,31 +83,31 @@ settled-regular h top kept s is = record {
   within = ap (λ (n : ℕ). list_all (λ index. nat_lt index n) (indexes s)) (count_served h s is.header_is) ∙ good-within (fragment_count h) top (openings s) is.good;
 }
 
--- without an opening, or after good ones, no refusal stands in the reads
+-- without an opening, or after good ones, the reads show no refusal
 pub unrefused_without : (reads : List StoreRead) → folded sha256 reads ≡ None → FoldAsWanted reads
 unrefused_without reads none made folds = absurd (true≢false (sym (ap is_some (sym none ∙ folds))))
 
--- after good openings the newest folds to what is wanted of it
-pub good-unrefused : (h : Header) (top : List ℕ) (s : List StoreRead) → header_served s ≡ Some h → top_served s ≡ Some top → AreGood sha256 (fragment_count h) top (openings s) → FoldAsWanted s
+-- after good openings the newest folds to the wanted digest
+pub good-unrefused : (h : Header) (top : List ℕ) (s : List StoreRead) → header_served s ≡ Some h → top_served s ≡ Some top → AllFoldAsWanted sha256 (fragment_count h) top (openings s) → FoldAsWanted s
 unfolding folded wanted
 good-unrefused h top s header_is top_is are_good made folds =
     let n : ℕ = fragment_count h in
     let count : fragments_served s ≡ n = count_served h s header_is in
     (λ j. wanted_in sha256 (count j) (top_is j) (openings s)) ∙ by (openings s) are_good (ap (λ (m : ℕ). folded_in sha256 m (openings s)) (sym count) ∙ folds)
   where
-    by : (os : List Opening) → AreGood sha256 (fragment_count h) top os → folded_in sha256 (fragment_count h) os ≡ Some made → wanted_in sha256 (fragment_count h) (Some top) os ≡ Some made
+    by : (os : List Opening) → AllFoldAsWanted sha256 (fragment_count h) top os → folded_in sha256 (fragment_count h) os ≡ Some made → wanted_in sha256 (fragment_count h) (Some top) os ≡ Some made
     by [] good there = absurd (true≢false (sym (ap is_some there)))
     by (o ∷ os) good there = sym good.2 ∙ there
 
 pub settled-unrefused : (h : Header) (top : List ℕ) (kept : Option Kept) (s : List StoreRead) → IsSettled h top kept s → FoldAsWanted s
 settled-unrefused h top kept s is = good-unrefused h top s is.header_is is.top_is is.good
 
-pub sibling_asks-front : (n i low high : ℕ) → low ≤ high → (rest : List (ℕ × ℕ)) × (sibling_asks n i high ≡ sibling_asks n i low ++ rest)
-sibling_asks-front n i low zero le = let same : low ≡ 0 = omega arith in ([], ap (sibling_asks n i) (sym same) ∙ sym (append-nil (sibling_asks n i low)))
-sibling_asks-front n i low (suc high) le =
+pub sibling_asks-prefix : (n i low high : ℕ) → low ≤ high → (rest : List (ℕ × ℕ)) × (sibling_asks n i high ≡ sibling_asks n i low ++ rest)
+sibling_asks-prefix n i low zero le = let same : low ≡ 0 = omega arith in ([], ap (sibling_asks n i) (sym same) ∙ sym (append-nil (sibling_asks n i low)))
+sibling_asks-prefix n i low (suc high) le =
     elim (leb_tells low high) [
       | inl p ↦
-          let rest = sibling_asks-front n i low high p.1 in
+          let rest = sibling_asks-prefix n i low high p.1 in
           (rest.0 ++ sibling_ask n i high, ap (λ (l : List (ℕ × ℕ)). l ++ sibling_ask n i high) rest.1 ∙ append_assoc (sibling_asks n i low) rest.0 (sibling_ask n i high))
       | inr p ↦ let same : low ≡ suc high = omega (arith, p.1, le) in ([], ap (sibling_asks n i) (sym same) ∙ sym (append-nil (sibling_asks n i low)))
     ]
@@ -135,35 +135,35 @@ module _ (h : Header) (top : List ℕ) (kept : Option Kept) (s : List StoreRead)
     asks-more : map ask_of (s ++ t) ≡ asks_by (Some h) (indexes s) ++ (leaf_ask i ∷ sibling_asks (fragment_count h) i l)
     asks-more = map_ask-append s t ∙ (λ j. is.asked j ++ (ap (map ask_of) a.all ∙ (λ k. a.leaf k ∷ a.siblings k)) j)
 
-    -- the first reads of an opening are regular behind those before
+    -- the first reads of an opening, after regular reads, are regular
     pub begun-regular : l ≤ goal_level (fragment_count h) i (indexes s) → IsRegular (s ++ t)
     begun-regular low =
-        let rest = sibling_asks-front (fragment_count h) i l (goal_level (fragment_count h) i (indexes s)) low in
-        let front : List (ℕ × ℕ) = asks_by (Some h) (indexes s) ++ (leaf_ask i ∷ sibling_asks (fragment_count h) i l) in
-        let all : asks_by (Some h) (i ∷ indexes s) ≡ front ++ rest.0 =
+        let rest = sibling_asks-prefix (fragment_count h) i l (goal_level (fragment_count h) i (indexes s)) low in
+        let prefix : List (ℕ × ℕ) = asks_by (Some h) (indexes s) ++ (leaf_ask i ∷ sibling_asks (fragment_count h) i l) in
+        let all : asks_by (Some h) (i ∷ indexes s) ≡ prefix ++ rest.0 =
         ap (λ (r : List (ℕ × ℕ)). asks_by (Some h) (indexes s) ++ (leaf_ask i ∷ r)) rest.1
         ∙ sym (append_assoc (asks_by (Some h) (indexes s)) (leaf_ask i ∷ sibling_asks (fragment_count h) i l) rest.0) in
-        let count : length front ≡ length (s ++ t) = sym (sym (length-map_ask (s ++ t)) ∙ ap length asks-more) in
+        let count : length prefix ≡ length (s ++ t) = sym (sym (length-map_ask (s ++ t)) ∙ ap length asks-more) in
         record {
-          follows = asks-more ∙ sym (take_at front rest.0 (length (s ++ t)) count) ∙ ap (take (length (s ++ t))) (sym all)
+          follows = asks-more ∙ sym (take_at prefix rest.0 (length (s ++ t)) count) ∙ ap (take (length (s ++ t))) (sym all)
               ∙ (λ j. take (length (s ++ t)) (asks_by (sym (header_more t) j) (sym indexes-more j)));
           within = ap (λ (m : ℕ). list_all (λ k. nat_lt k m) (indexes (s ++ t))) (count_served h (s ++ t) (header_more t))
               ∙ ap (list_all (λ k. nat_lt k (fragment_count h))) indexes-more
               ∙ and_true (nat_lt i (fragment_count h)) (list_all (λ k. nat_lt k (fragment_count h)) (indexes s)) (lt-ltb i (fragment_count h) lt) (good-within (fragment_count h) top (openings s) is.good);
         }
 
-    -- where the opening doesn't come to its goal, the reads fold to nothing
+    -- where the opening doesn't reach its goal, the reads fold to nothing
     pub folds_none : (goal : ℕ) → goal ≡ goal_level (fragment_count h) i (indexes s) → digest_at sha256 (fragment_count h) o goal ≡ None → folded sha256 (s ++ t) ≡ None
     unfolding folded
     folds_none goal at lacks =
         (λ j. folded_in sha256 (count_served h (s ++ t) (header_more t) j) (opened j))
         ∙ ap (digest_at sha256 (fragment_count h) o) (ap (λ (k : ℕ). goal_level (fragment_count h) k (indexes s)) index ∙ sym at) ∙ lacks
 
-    -- and no refusal stands in them
+    -- and they show no refusal
     unrefused : (goal : ℕ) → goal ≡ goal_level (fragment_count h) i (indexes s) → digest_at sha256 (fragment_count h) o goal ≡ None → FoldAsWanted (s ++ t)
     unrefused goal at lacks = unrefused_without (s ++ t) (folds_none goal at lacks)
 
-    -- what the newest opening folds to, and what is wanted of it
+    -- what the newest opening folds to, and the wanted digest
     folded-more : (goal : ℕ) (digest : List ℕ) → goal ≡ goal_level (fragment_count h) i (indexes s) → digest_at sha256 (fragment_count h) o goal ≡ Some digest
         → folded_in sha256 (fragment_count h) (o ∷ openings s) ≡ Some digest
     folded-more goal digest at folds =
@@ -199,7 +199,7 @@ module _ (h : Header) (top : List ℕ) (kept : Option Kept) (s : List StoreRead)
         let open_is = opened goal o.opening t o.asked in
         let folds = folded-more goal o.opening t o.asked goal digest at o.folds in
         let want_is = wanted-more goal o.opening t o.asked want by in
-        let P : List Opening → Type 0 = λ os. AreGood sha256 (fragment_count h) top os in
+        let P : List Opening → Type 0 = λ os. AllFoldAsWanted sha256 (fragment_count h) top os in
         let Q : List Opening → Type 0 = λ os. IsKept (fragment_count h) (Some (record { chunk = i / 16; digest = chunk })) os in
         record {
           header_is = header_more t;
@@ -227,7 +227,7 @@ module _ (h : Header) (top : List ℕ) (kept : Option Kept) (s : List StoreRead)
       → IsNotOpened (fragment_count h) i goal fault t → IsRegular (s ++ t) × IsFetchCause i fault (s ++ t)
   not_opened-ends goal (StoreShort to) t aim f = (
     begun-regular f.0.level f.0.opening t f.0.asked (omega (arith, f.0.low, goal_is goal aim)),
-    (cut-behind to s t is.all_whole f.1, unrefused f.0.level f.0.opening t f.0.asked goal (goal_is goal aim) f.0.lacks),
+    (cut-after to s t is.all_whole f.1, unrefused f.0.level f.0.opening t f.0.asked goal (goal_is goal aim) f.0.lacks),
   )
   not_opened-ends goal StoreFault t aim (inl none) =
       let same : s ++ t ≡ s = ap (λ (l : List StoreRead). s ++ l) none ∙ append-nil s in
@@ -245,13 +245,13 @@ module _ (h : Header) (top : List ℕ) (kept : Option Kept) (s : List StoreRead)
   not_opened-opens goal StoreFault t (inr f) = inl (indexes-more f.0.level f.0.opening t f.0.asked)
   not_opened-opens goal _ t f = absurd f
 
--- ---- what was told of a start settles
+-- ---- the reads of a start are settled
 
 pub started-settled : (h : Header) (top : List ℕ) (t : List StoreRead) → IsStarted h top t → IsSettled h top None t
 started-settled h top t s =
     let two : length t ≡ 2 = sym (length-map_ask t) ∙ ap length s.asked in
     let none : openings t ≡ [] = no_openings t (omega (arith, two)) in
-    let P : List Opening → Type 0 = λ os. AreGood sha256 (fragment_count h) top os in
+    let P : List Opening → Type 0 = λ os. AllFoldAsWanted sha256 (fragment_count h) top os in
     let Q : List Opening → Type 0 = λ os. IsKept (fragment_count h) None os in
     record {
       header_is = s.header_is;
@@ -306,7 +306,7 @@ held_settled (Ok head) header_of top_of key_of root key h top held later same is
     (subst Q (sym is.key_is) (gives d (subst P is.key_is here) root_same), tt)
 held_settled (Err fault) header_of top_of key_of root key h top held later same is gives = tt
 
--- ---- a refusal says nothing of the reads
+-- ---- after a refusal nothing is claimed of the reads
 
 pub settled-refused : (served : Option (List StoreRead)) (h : Header) (top : List ℕ) (kept : Option Kept) (fault : ReadFault) → Settled served h top kept (Some fault)
 settled-refused None h top kept fault = tt
@@ -367,7 +367,7 @@ module _ (d : Doc) (key : List ℕ) (h : Header) (top : List ℕ) (kept : Option
             | inr e ↦ if_false _ k.digest top e ∙ to_top (end ∙ if_false _ 4 (top_level (fragment_count h)) e)
           ]
 
-  -- so is what is kept then
+  -- so is what is kept
   pub kept_held : (goal : ℕ) (cipher chunk digest : List ℕ) → goal ≡ (if goes_to_chunk (top_level (fragment_count h)) i kept then 4 else top_level (fragment_count h)) → IsOpenedHeld d key i goal cipher chunk digest
       → IsKeptOf d key (top_level (fragment_count h)) (Some (record { chunk = i / 16; digest = chunk }))
   kept_held goal cipher chunk digest aim o = λ high.

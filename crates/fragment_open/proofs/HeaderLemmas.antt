@@ -1,9 +1,10 @@
--- The header served is the one whose bytes were served, exactly where they are one's.
+-- The header served is the one with the bytes served, exactly where a header has these bytes.
 use Rattle.std.proofs.Common.{◌≡◌, ℕ, ◌+◌, ◌*◌, Bool, true, false, ◌&&◌, List, length, refl, sym, ap, ◌∙◌, subst, true≢false}
 use Rattle.std.specs.Prelude.{bytes_eq, if◌then◌else◌, Option, Some, None, is_some, option_and_then}
 use Rattle.std.specs.List.{slice_get}
 use Rattle.std.proofs.lemmas.Bool.{eqb-true, eq-eqb, leb-true, le-leb}
 use Rattle.std.proofs.lemmas.Slice.Eq.{bytes_eq-Decides}
+use Rattle.acl_model.specs.Limits.{most_names, most_open_elements, most_stream_bytes}
 use Rattle.merkle_chunks.specs.HeaderBytes.{IsInRange, header_bytes}
 use Rattle.merkle_chunks.specs.declared.header.Header.{Header}
 use Rattle.merkle_chunks.proofs.Places.{same_header, tree_in-header, dictionary_in-header, tags_in-header, depth_in-header, check_in-header}
@@ -15,9 +16,9 @@ use Rattle.fragment_open.proofs.PathLemmas.{chained, same_value}
 
 range_tested : (h : Header) → IsInRange h → is_in_range h ≡ true
 range_tested h r =
-    and_true _ _ (le-leb 1 h.tree r.tree) (and_true _ _ (le-leb 1 h.tags r.some_tags) (and_true _ _ (le-leb h.tags 256 r.few_tags)
-    (and_true _ _ (le-leb (2 + 2 * h.tags) h.dictionary r.dictionary) (and_true _ _ (le-leb 1 h.depth r.some_depth) (and_true _ _ (le-leb h.depth 255 r.low_depth)
-    (and_true _ _ (le-leb (h.tree + h.dictionary) 33554432 r.together) (eq-eqb (length h.check) 16 r.check)))))))
+    and_true _ _ (le-leb 1 h.tree r.tree) (and_true _ _ (le-leb 1 h.tags r.some_tags) (and_true _ _ (le-leb h.tags most_names r.few_tags)
+    (and_true _ _ (le-leb (2 + 2 * h.tags) h.dictionary r.dictionary) (and_true _ _ (le-leb 1 h.depth r.some_depth) (and_true _ _ (le-leb h.depth most_open_elements r.low_depth)
+    (and_true _ _ (le-leb (h.tree + h.dictionary) most_stream_bytes r.together) (eq-eqb (length h.check) 16 r.check)))))))
 
 tested_range : (h : Header) → is_in_range h ≡ true → IsInRange h
 tested_range h t =
@@ -31,11 +32,11 @@ tested_range h t =
     record {
       tree = leb-true 1 h.tree a.0;
       some_tags = leb-true 1 h.tags b.0;
-      few_tags = leb-true h.tags 256 c.0;
+      few_tags = leb-true h.tags most_names c.0;
       dictionary = leb-true (2 + 2 * h.tags) h.dictionary d.0;
       some_depth = leb-true 1 h.depth e.0;
-      low_depth = leb-true h.depth 255 f.0;
-      together = leb-true (h.tree + h.dictionary) 33554432 g.0;
+      low_depth = leb-true h.depth most_open_elements f.0;
+      together = leb-true (h.tree + h.dictionary) most_stream_bytes g.0;
       check = eqb-true (length h.check) 16 g.1;
     }
 

@@ -1,4 +1,4 @@
--- What a store that holds a document's file gives at the places of its parts.
+-- What a store that holds a document's file gives at the offsets of its parts.
 use Rattle.std.proofs.Common.{◌≡◌, ℕ, suc, ◌+◌, ◌*◌, ◌<◌, ◌≤◌, List, [], length, take, drop, get_or, sym, ap, ◌∙◌, subst, arith, add-one}
 use Rattle.std.specs.Prelude.{Option, IfSome, Ok, Err}
 use Rattle.std.proofs.lemmas.List.{get_or_default, get_or_past}
@@ -14,18 +14,18 @@ use Rattle.merkle_chunks.proofs.LevelLemmas.{count_below-le}
 use Rattle.merkle_chunks.proofs.TableLemmas.{get_or-leaf_strings, length-digests_at}
 use Rattle.fragment_open.specs.Asks.{index_at, sibling_of}
 use Rattle.fragment_open.specs.Hashed.{parent_string}
-use Rattle.fragment_open.specs.Told.{GivesWhole}
+use Rattle.fragment_open.specs.CallReads.{GivesWhole}
 use Rattle.fragment_open.specs.Held.{HoldsFile, IsStoreFault, digest_held, sibling_held}
 use Rattle.fragment_open.proofs.TreeLemmas.{index_at-lt, string_above}
 
--- a read within the bytes ends by the store's failure alone
+-- a read within the bytes fails only by the store's failure
 pub fault_within : (fault : ReadFault) (place : ℕ) (into all : List ℕ) → place + length into ≤ length all → GivesWhole {T = Unit {0}} (Err fault) place into all → IsStoreFault fault
 fault_within (StoreShort to) place into all fits h = absurd (omega (arith, fits, h))
 fault_within StoreFault place into all fits h = tt
 fault_within _ place into all fits h = absurd h
 
 module _ (d : Doc) (key : List ℕ) (n : ℕ) (held : Option (List ℕ)) (is : HoldsFile held n d key) where
-  -- what is said of the bytes held is said of the file
+  -- a statement about the bytes held is one about the file
   pub of_file : (P : List ℕ → Type 0) → IfSome held P → P (file d key)
   of_file P h = let Q : Option (List ℕ) → Type 0 = λ o. IfSome o P in subst Q is.holds h
 
@@ -77,7 +77,7 @@ module _ (d : Doc) (key : List ℕ) (n : ℕ) (held : Option (List ℕ)) (is : H
   leaf_fault i place into fault lt at size h =
       fault_within fault place into (file d key) (omega (arith, length-file d key, is.count, lt, at, size)) (of_file (GivesWhole {T = Unit {0}} (Err fault) place into) h)
 
-  -- the digest above is that of the parent, by what stands for the sibling
+  -- the digest above is that of the parent, from the sibling's or that of an absent child
   pub above_held : (i l at : ℕ) (digest sibling above : List ℕ) → i < n → at ≡ index_at i l → digest ≡ digest_held d key l (index_at i l) → sibling ≡ sibling_held d key l at
       → above ≡ sha256 (parent_string (index_at i l) digest sibling) → above ≡ digest_held d key (l + 1) (index_at i (l + 1))
   above_held i l at digest sibling above lt is_at here there up =

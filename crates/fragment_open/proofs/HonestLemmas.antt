@@ -34,8 +34,8 @@ use Rattle.fragment_open.proofs.ClashLemmas.{both_true, no_clash}
 use Rattle.fragment_open.proofs.TreeLemmas.{digest_in, if_true, if_false, index_at-lt, sibling_absent, sibling_in, string_above, string_in}
 use Rattle.fragment_open.proofs.PathLemmas.{chained, mapped, same_value, string_at-above, whole-length}
 use Rattle.fragment_open.proofs.KeyLemmas.{either, goal_level-le, top_digest-is}
-use Rattle.fragment_open.proofs.ClimbLemmas.{length-sibling_asks, slice_get-behind, slice_get-longer}
-use Rattle.fragment_open.proofs.FetchLemmas.{sibling_asks-front}
+use Rattle.fragment_open.proofs.ClimbLemmas.{length-sibling_asks, slice_get-after, slice_get-longer}
+use Rattle.fragment_open.proofs.FetchLemmas.{sibling_asks-prefix}
 use Rattle.fragment_open.proofs.HeaderLemmas.{header_in-of}
 use Rattle.fragment_open.proofs.RegularLemmas.{AreAsked, reads_in, regular-asked, same_head, same_tail}
 
@@ -65,11 +65,11 @@ reads_of-at all (x ∷ reads) (suc j) r h found = reads_of-at all reads j r h.1 
 
 sibling_there : (n i l goal : ℕ) → l < goal → has_sibling n i l ≡ true → slice_get (sibling_asks n i goal) (siblings_below n i l) ≡ Some (node_place n l (sibling_of (index_at i l)), 32)
 sibling_there n i l goal lt has =
-    let rest = sibling_asks-front n i (suc l) goal (omega (arith, lt)) in
+    let rest = sibling_asks-prefix n i (suc l) goal (omega (arith, lt)) in
     let one : sibling_ask n i l ≡ (node_place n l (sibling_of (index_at i l)), 32) ∷ [] = if_true (has_sibling n i l) ((node_place n l (sibling_of (index_at i l)), 32) ∷ []) [] has in
     ap (λ (asks : List (ℕ × ℕ)). slice_get asks (siblings_below n i l)) rest.1
     ∙ slice_get-longer (sibling_asks n i l ++ sibling_ask n i l) rest.0 (siblings_below n i l) (node_place n l (sibling_of (index_at i l)), 32)
-    (slice_get-behind (sibling_asks n i l) (sibling_ask n i l) (siblings_below n i l) (sym (length-sibling_asks n i l)) ∙ ap (λ (asks : List (ℕ × ℕ)). slice_get asks 0) one)
+    (slice_get-after (sibling_asks n i l) (sibling_ask n i l) (siblings_below n i l) (sym (length-sibling_asks n i l)) ∙ ap (λ (asks : List (ℕ × ℕ)). slice_get asks 0) one)
 
 -- the root string with its name, where there is one
 abbrev pub named_root : Option (List ℕ) → List (StringName × List ℕ)

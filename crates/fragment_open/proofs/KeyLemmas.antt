@@ -1,4 +1,4 @@
--- The key law: without a clash with a file's strings, good openings under its root are of its own fragments.
+-- The main law: without a clash with a file's strings, good openings under its root are of its own fragments.
 use Rattle.std.proofs.Common.{◌≡◌, ℕ, zero, suc, ◌+◌, ◌/◌, ◌<◌, ◌≤◌, Bool, true, false, List, [], ◌∷◌, ◌++◌, length, take, drop, get_or, refl, sym, ap, ◌∙◌, subst, inl, inr, ◌⊎◌, arith, true≢false}
 use Rattle.std.specs.Prelude.{nat_lt, Option, Some, is_some, option_map, map, Contains}
 use Rattle.std.specs.List.{slice_get}
@@ -14,7 +14,7 @@ use Rattle.fragment_open.specs.Openings.{Opening, index_of}
 use Rattle.fragment_open.specs.Asks.{goal_level, index_at, same_chunk, to_chunk}
 use Rattle.fragment_open.specs.Served.{whole}
 use Rattle.fragment_open.specs.Hashed.{chunk_digest, goal_after, hashed_in, named_up_to, string_at, wanted_in}
-use Rattle.fragment_open.specs.Good.{AreGood}
+use Rattle.fragment_open.specs.Good.{AllFoldAsWanted}
 use Rattle.fragment_open.specs.Clash.{has_clash}
 use Rattle.fragment_open.proofs.ClashLemmas.{agree, both_true}
 use Rattle.fragment_open.proofs.TreeLemmas.{if_true, if_false, index_at-lt, index_at-chunk, string_in, digest_in}
@@ -24,7 +24,7 @@ pub either : (b : Bool) → (b ≡ true) ⊎ (b ≡ false)
 either true = inl refl
 either false = inr refl
 
--- what stands at a place is contained
+-- what is at an index is contained
 pub contained : {X : Type 0} (xs : List X) (p : ℕ) (x : X) → slice_get xs p ≡ Some x → Contains xs x
 contained [] p x h = absurd (true≢false (sym (ap is_some h)))
 contained (y ∷ ys) zero x h = (0, omega arith, same_value y x h)
@@ -46,7 +46,7 @@ goal_level-least n i before high =
       | inr e ↦ omega (arith, if_false _ 4 (top_level n) e, high)
     ]
 
--- an opening that goes up to its chunk alone has one before it, in that chunk
+-- an opening that goes up only to its chunk has one before it, in that chunk
 no_chunk_alone : (n i : ℕ) → to_chunk n i [] ≡ true → ⊥
 no_chunk_alone n i e = true≢false (sym (both_true (nat_lt 4 (top_level n)) false e).1)
 
@@ -102,7 +102,7 @@ module _ (hash : List ℕ → List ℕ) (wide : (string : List ℕ) → length (
             ∙ ap (λ (k : ℕ). hash (string_in hash frags (top_level n) k)) (sym (on_top i lt)))
       ]
 
-  pub good-honest : (top : List ℕ) (os : List Opening) → AreGood hash (length frags) top os → AgreesIn (hashed_in hash (length frags) os)
+  pub good-honest : (top : List ℕ) (os : List Opening) → AllFoldAsWanted hash (length frags) top os → AgreesIn (hashed_in hash (length frags) os)
       → top ≡ hash (string_in hash frags (top_level (length frags)) 0) → IsHonestHead os
   good-honest top [] good agrees istop = tt
   good-honest top (o ∷ before) good agrees istop =
@@ -140,7 +140,7 @@ module _ (hash : List ℕ → List ℕ) (wide : (string : List ℕ) → length (
         (contained (all_strings hash theirs frags) (1 + (count_below (length frags) l + k)) (spot l k, string_in hash frags l k) (string_at_place hash frags theirs l k node))
         same
 
-    -- the root string served is the file's: so are its header and its top digest
+    -- the root string served is the file's, and so are its header and its top digest
     pub root-agrees : (header top : List ℕ) → length header ≡ 64 → Contains ours (root, root_string header top) → hash (root_string header top) ≡ root_digest hash theirs frags
         → (header ≡ theirs) × (top ≡ top_digest hash frags)
     unfolding all_strings root_digest
@@ -152,7 +152,7 @@ module _ (hash : List ℕ → List ℕ) (wide : (string : List ℕ) → length (
         )
 
     -- the newest of good openings under that top digest read its fragment
-    pub fragment-agrees : (top : List ℕ) (o : Opening) (before : List Opening) → top ≡ top_digest hash frags → AreGood hash (length frags) top (o ∷ before)
+    pub fragment-agrees : (top : List ℕ) (o : Opening) (before : List Opening) → top ≡ top_digest hash frags → AllFoldAsWanted hash (length frags) top (o ∷ before)
         → ((s : StringName × List ℕ) → Contains (hashed_in hash (length frags) (o ∷ before)) s → Contains ours s)
         → o.leaf.bytes ≡ get_or frags (index_of o) []
     unfolding strings_at string_at

@@ -11,14 +11,14 @@ use Rattle.acl_outside.specs.declared.read_fault.ReadFault.TheVariants.{StoreFau
 use Rattle.merkle_chunks.specs.Strings.{leaf_string}
 use Rattle.fragment_open.specs.Openings.{Opening, index_of, opening_at}
 use Rattle.fragment_open.specs.Hashed.{digest_at, string_at}
-use Rattle.fragment_open.specs.Told.{ReadsWhole, Told, is_whole}
-use Rattle.fragment_open.specs.Climbing.{Climbs, Ends, IsClimbed, IsEnded, IsNotOpened, IsOpened}
+use Rattle.fragment_open.specs.CallReads.{ReadsWhole, Told, is_whole}
+use Rattle.fragment_open.specs.inside.Climbing.{Climbs, Ends, IsClimbed, IsEnded, IsNotOpened, IsOpened}
 use Rattle.fragment_open.proofs.ClashLemmas.{and_true}
 use Rattle.fragment_open.proofs.TreeLemmas.{if_true}
 use Rattle.fragment_open.proofs.PathLemmas.{mapped}
 use Rattle.fragment_open.proofs.ClimbLemmas.{Told-trans, Told-weaker, ends_higher, lacks_higher, lacks_leaf, less-neq, string_at-more, with_more}
 
--- what is said of numbers and a digest is said of equal ones
+-- a statement about numbers and a digest is true of equal ones
 pub moved : (P : ℕ → ℕ → ℕ → List ℕ → Type 0) (n' n i' i l' l : ℕ) (d' d : List ℕ) → n' ≡ n → i' ≡ i → l' ≡ l → d' ≡ d → P n' i' l' d' → P n i l d
 moved P n' n i' i l' l d' d a b c e h =
     let A : ℕ → Type 0 = λ x. P x i' l' d' in
@@ -33,7 +33,7 @@ pub record BeginsWith (bytes : List ℕ) (reads : List StoreRead) : Type 0 where
   pub all : reads ≡ first ∷ rest
   pub given : first.bytes ≡ bytes
 
--- an opening that came up to a level, and the bytes of its fragment
+-- an opening that reached a level, and the bytes of its fragment
 pub record IsUp (n i level : ℕ) (digest bytes : List ℕ) (reads : List StoreRead) : Type 0 where
   pub climbed : IsClimbed n i level digest reads
   pub begins : BeginsWith bytes reads
@@ -90,7 +90,7 @@ module _ (n i : ℕ) where
   leaf_fails goal place into StoreFault reads at size h = inl h
   leaf_fails goal place into _ reads at size h = absurd h
 
-  -- ---- behind it
+  -- ---- after it
 
   pub up_more : (l m : ℕ) (d e bytes : List ℕ) (t u : List StoreRead) → IsUp n i l d bytes t → Climbs n i l d m e u → IsUp n i m e bytes (t ++ u)
   up_more l m d e bytes t u h more = record {
@@ -106,7 +106,7 @@ module _ (n i : ℕ) where
   pub up_fails : (l low goal : ℕ) (d bytes : List ℕ) (fault : ReadFault) (t u : List StoreRead) → low ≤ goal → IsUp n i l d bytes t → Ends n i l d low fault u → IsNotOpened n i goal fault (t ++ u)
   up_fails l low goal d bytes fault t u le h ends = not_opened goal fault (t ++ u) (ends_higher n i low goal fault (t ++ u) le (ends t h.climbed))
 
-  -- at the goal, by way of the chunk's level
+  -- at the goal, after the chunk's level
   pub up_opened : (low goal : ℕ) (chunk digest bytes : List ℕ) (t u : List StoreRead) → (4 ≤ goal → low ≡ 4) → IsUp n i low chunk bytes t → Climbs n i low chunk goal digest u → IsOpened n i goal bytes chunk digest (t ++ u)
   up_opened low goal chunk digest bytes t u level h more =
       let end : IsUp n i goal digest bytes (t ++ u) = up_more low goal chunk digest bytes t u h more in
@@ -131,7 +131,7 @@ module _ (n i : ℕ) where
             ∙ ap (option_map sha256) there ∙ ap (λ (y : List ℕ). Some y) x.2;
       }
 
--- ---- as the code says it
+-- ---- in the form of the code's contracts
 
 module _ (n i : ℕ) (a b c : Option (List StoreRead)) (place : ℕ) (into : List ℕ) (u : Unit {0}) (at : place ≡ 64 + 256 * i) (size : length into ≡ 256) where
   pub told_leaf_fails : (goal : ℕ) (fault : ReadFault) → Told a b (ReadsWhole {T = Unit {0}} (Err fault) place into) → Told a b (IsNotOpened n i goal fault)

@@ -1,4 +1,4 @@
--- From a digest that is the table's down to the fragment: without a clash each string on the way is the table's.
+-- From a digest of the table down to the fragment: without a clash each string on the path is the table's.
 use Rattle.std.proofs.Common.{◌≡◌, ℕ, zero, suc, ◌/◌, ◌<◌, ◌≤◌, Bool, true, false, ◌&&◌, ◌||◌, List, [], ◌∷◌, ◌++◌, length, refl, sym, ap, ◌∙◌, subst, inl, inr, arith, true≢false}
 use Rattle.std.specs.Prelude.{if◌then◌else◌, Option, Some, None, is_some, is_none, option_map, option_and_then, option_to_list, Contains}
 use Rattle.std.specs.List.{slice_get}
@@ -11,7 +11,7 @@ use Rattle.fragment_open.specs.Openings.{Opening, index_of}
 use Rattle.fragment_open.specs.Asks.{has_sibling, index_at, siblings_below}
 use Rattle.fragment_open.specs.Served.{whole}
 use Rattle.fragment_open.specs.Hashed.{folded_in, goal_after, hashed_in, is_stopped, lacks_sibling, named_at, named_up_to, parent_string, sibling_digest, string_at}
-use Rattle.fragment_open.specs.Good.{AreGood}
+use Rattle.fragment_open.specs.Good.{AllFoldAsWanted}
 use Rattle.fragment_open.proofs.TreeLemmas.{if_true, if_false, index_at-lt, parent_parts, string_in, sibling_in, string_above, length-sibling}
 
 -- ---- options
@@ -49,7 +49,7 @@ length-sibling_digest n o l s h =
     ] h
 
 module _ (hash : List ℕ → List ℕ) (wide : (string : List ℕ) → length (hash string) ≡ 32) where
-  -- what a string above is made of
+  -- the parts of a string above level 0
   pub string_at-above : (n : ℕ) (o : Opening) (l : ℕ) (x : List ℕ) → string_at hash n o (suc l) ≡ Some x
       → (y : List ℕ) × (s : List ℕ) × (string_at hash n o l ≡ Some y) × (sibling_digest n o l ≡ Some s) × (parent_string (index_at (index_of o) l) (hash y) s ≡ x)
   unfolding string_at
@@ -58,7 +58,7 @@ module _ (hash : List ℕ → List ℕ) (wide : (string : List ℕ) → length (
       let b = mapped (parent_string (index_at (index_of o) l) (hash a.0)) (sibling_digest n o l) x a.2 in
       (a.0, b.0, a.1, b.1, b.2)
 
-  -- so the strings below one that is there are there
+  -- so where there is a string, there are those below it
   pub string_at-below : (n : ℕ) (o : Opening) (l m : ℕ) → m ≤ l → is_some (string_at hash n o l) ≡ true → is_some (string_at hash n o m) ≡ true
   string_at-below n o zero m le there = let here : m ≡ 0 = omega arith in ap (λ (k : ℕ). is_some (string_at hash n o k)) here ∙ there
   string_at-below n o (suc l) m le there =
@@ -143,13 +143,13 @@ module _ (hash : List ℕ → List ℕ) (wide : (string : List ℕ) → length (
   nothing_lacks (Some x) None h = sym h
   nothing_lacks (Some x) (Some y) h = refl
 
-  pub good-not_stopped : (n : ℕ) (top : List ℕ) (os : List Opening) → AreGood hash n top os → is_stopped hash n os ≡ false
+  pub good-not_stopped : (n : ℕ) (top : List ℕ) (os : List Opening) → AllFoldAsWanted hash n top os → is_stopped hash n os ≡ false
   good-not_stopped n top [] good = refl
   good-not_stopped n top (o ∷ before) good =
       ap (λ (v : Bool). v || lacks_sibling hash n o before) (good-not_stopped n top before good.3)
       ∙ nothing_lacks (string_at hash n o 0) (string_at hash n o (goal_after hash n o before)) (folded-there n o before good.1)
 
-  pub hashed_in-good : (n : ℕ) (top : List ℕ) (o : Opening) (before : List Opening) → AreGood hash n top before
+  pub hashed_in-good : (n : ℕ) (top : List ℕ) (o : Opening) (before : List Opening) → AllFoldAsWanted hash n top before
       → hashed_in hash n (o ∷ before) ≡ hashed_in hash n before ++ named_up_to hash n o (goal_after hash n o before)
   unfolding hashed_in
   hashed_in-good n top o before good =

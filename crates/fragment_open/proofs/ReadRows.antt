@@ -1,5 +1,5 @@
--- The reads of the worked file with 41 fragments, under a hash that computes, written out: each of a reader's words is computed on
--- them.
+-- The reads of a test file with 41 fragments, written out, under a hash that computes. The definitions about reads are
+-- computed on them.
 use Rattle.std.proofs.Common.{◌≡◌, ℕ, zero, suc, ◌+◌, ◌*◌, ◌/◌, ◌%◌, Bool, true, false, List, [], ◌∷◌, ◌++◌, map, take, drop, replicate, refl}
 use Rattle.std.specs.Prelude.{Some, Option, fold, is_some, bytes_eq, set}
 use Rattle.acl_outside.specs.Outside.{StoreRead}
@@ -13,7 +13,7 @@ use Rattle.fragment_open.specs.Served.{asks_by, header_in, header_served, fragme
 use Rattle.fragment_open.specs.Hashed.{folded, hashed, hashed_in, string_at, wanted}
 use Rattle.fragment_open.specs.Clash.{has_clash}
 
--- a hash with 32 bytes that depends on each byte and its place
+-- a hash of 32 bytes that depends on each byte and its index
 toy : List ℕ → List ℕ
 toy bytes = let sum : ℕ = fold (λ sum byte. (sum * 31 + byte + 7) % 65521) 1 bytes in sum / 256 ∷ sum % 256 ∷ replicate 30 0
 
@@ -31,13 +31,13 @@ file41 = file_bytes toy (header_bytes worked) (made 41)
 strings41 : List (StringName × List ℕ)
 strings41 = all_strings toy (header_bytes worked) (made 41)
 
--- what a store that holds bytes serves where it is asked
+-- what a store that holds bytes serves for an ask
 served : List ℕ → List (ℕ × ℕ) → List StoreRead
 served file [] = []
 served file (a ∷ asks) = record { at = a.0; asked = a.1; bytes = take a.1 (drop a.0 file) } ∷ served file asks
 
--- the reads of the header and the top digest, of fragment 40 first, then of fragment 36, which is in the same chunk, and then of
--- fragment 31, which is in the chunk before
+-- The reads of the header and the top digest, and then of the fragments 40, 36 and 31. Fragment 36 is in the chunk of
+-- fragment 40, and fragment 31 is in the chunk before.
 start : List (ℕ × ℕ)
 start = (0, 64) ∷ (13248, 32) ∷ []
 
@@ -114,7 +114,8 @@ no_clash_row : has_clash toy (hashed toy reads41) strings41 ≡ false
 unfolding has_clash strings41 all_strings top_digest reads41 file41 file_bytes table_levels strings_at served worked toy made start first40 then36 then31 header_in openings top_level hashed hashed_in string_at
 no_clash_row = refl
 
--- fragment 40 with other bytes folds to something else than the top, and fragment 36 after it to what is wanted of it no more
+-- fragment 40 with other bytes doesn't fold to the top digest, and fragment 36 after it no longer folds to the wanted
+-- digest
 changed : List StoreRead
 changed = set reads41 2 (record { at = 10304; asked = 256; bytes = replicate 256 41 })
 
@@ -131,8 +132,8 @@ clash_row : has_clash (λ bytes. replicate 32 0) (hashed (λ bytes. replicate 32
 unfolding changed has_clash strings41 all_strings top_digest reads41 file41 file_bytes table_levels strings_at served worked toy made start first40 then36 then31 header_in openings top_level hashed hashed_in string_at
 clash_row = refl
 
--- a sibling that comes short ends the whole list: here that at level 3 of the first opening, so its string on level 4 and all
--- of the next openings are absent; a fragment that comes short is left out alone
+-- A short read of a sibling ends the whole list. Here it is at level 3 of the first opening, so the string on level 4
+-- and all of the next openings are absent. A short read of a fragment leaves out only that fragment.
 cut_sibling_row : names (hashed toy (set reads41 3 (record { at = 13024; asked = 32; bytes = replicate 31 0 }))) ≡ root ∷ spot 0 40 ∷ spot 1 20 ∷ spot 2 10 ∷ spot 3 5 ∷ []
 unfolding names reads41 file41 file_bytes table_levels strings_at served worked toy made start first40 then36 then31 header_in openings top_level hashed hashed_in string_at
 cut_sibling_row = refl
@@ -141,7 +142,7 @@ cut_leaf_row : names (hashed toy (take 10 (set reads41 2 (record { at = 10304; a
 unfolding names reads41 file41 file_bytes table_levels strings_at served worked toy made start first40 then36 then31 header_in openings top_level hashed hashed_in string_at
 cut_leaf_row = refl
 
--- the first two reads are told by their position, also where they ask for 256 bytes
+-- the first two reads are recognised by their position, also where they ask for 256 bytes
 position_row : indexes (map (λ (r : StoreRead). record r { asked = 256 }) (take 3 reads41)) ≡ 40 ∷ []
 unfolding reads41 file41 file_bytes table_levels strings_at served worked toy made start first40 then36 then31 header_in openings top_level
 position_row = refl

@@ -1,4 +1,4 @@
--- What regular reads say of each opening: it asked for its fragment and then for the siblings, from level 0 up.
+-- Each opening of regular reads asked for its fragment and then for the siblings, from level 0 up.
 use Rattle.std.proofs.Common.{◌≡◌, ℕ, zero, suc, ◌+◌, ◌≤◌, Bool, true, false, List, [], ◌∷◌, ◌++◌, length, take, map, refl, sym, ap, ◌∙◌, subst, inl, inr, arith, append_assoc, append-nil, length-append}
 use Rattle.std.specs.Prelude.{nat_eq, fold, if◌then◌else◌}
 use Rattle.acl_outside.specs.Outside.{StoreRead}
@@ -66,7 +66,7 @@ reads_in-fold (r ∷ reads) os proper some =
     let rest = reads_in-fold reads (with_read os r) one.1 (with_read-some os r some) in
     (rest.0 ∙ ap (λ (l : List StoreRead). l ++ reads) one.0 ∙ append_assoc (reads_in os) (r ∷ []) reads, rest.1)
 
--- reads that begin with a fragment's are those of their openings
+-- reads that begin with a fragment's read are those of their openings
 pub reads_in-openings : (r : StoreRead) (reads : List StoreRead) → is_leaf (ask_of r) ≡ true
     → (reads_in (fold with_read [] (r ∷ reads)) ≡ r ∷ reads) × AreProper (fold with_read [] (r ∷ reads))
 reads_in-openings r reads leaf =
@@ -91,16 +91,16 @@ pub same_tail : (a b : ℕ × ℕ) (xs ys : List (ℕ × ℕ)) → a ∷ xs ≡ 
 unfolding rest_asks
 same_tail a b xs ys h = ap rest_asks h
 
-front : (xs ys : List (ℕ × ℕ)) (k : ℕ) → xs ≡ take k ys → xs ≡ take (length xs) ys
-front [] ys k h = refl
-front (x ∷ xs) ys zero h = absurd (omega (arith, ap length h))
-front (x ∷ xs) [] (suc k) h = absurd (omega (arith, ap length h))
-front (x ∷ xs) (y ∷ ys) (suc k) h = λ i. same_head x y xs (take k ys) h i ∷ front xs ys k (same_tail x y xs (take k ys) h) i
+prefix : (xs ys : List (ℕ × ℕ)) (k : ℕ) → xs ≡ take k ys → xs ≡ take (length xs) ys
+prefix [] ys k h = refl
+prefix (x ∷ xs) ys zero h = absurd (omega (arith, ap length h))
+prefix (x ∷ xs) [] (suc k) h = absurd (omega (arith, ap length h))
+prefix (x ∷ xs) (y ∷ ys) (suc k) h = λ i. same_head x y xs (take k ys) h i ∷ prefix xs ys k (same_tail x y xs (take k ys) h) i
 
--- two lists that end with a leaf behind as many leaves, of which one begins the other, are aligned there
+-- two lists, one a prefix of the other, are aligned where each has a leaf after the same number of leaves
 aligned : (as' bs cs ds : List (ℕ × ℕ)) (a d : ℕ × ℕ) (k : ℕ) → is_leaf a ≡ true → is_leaf d ≡ true → leaves as' ≡ leaves cs → as' ++ (a ∷ bs) ≡ take k (cs ++ (d ∷ ds))
     → (as' ≡ cs) × (a ∷ bs ≡ take (length (a ∷ bs)) (d ∷ ds))
-aligned [] bs [] ds a d k la ld same h = (refl, front (a ∷ bs) (d ∷ ds) k h)
+aligned [] bs [] ds a d k la ld same h = (refl, prefix (a ∷ bs) (d ∷ ds) k h)
 aligned [] bs (c ∷ cs) ds a d zero la ld same h = absurd (omega (arith, ap length h))
 aligned [] bs (c ∷ cs) ds a d (suc k) la ld same h =
     let is : is_leaf c ≡ true = ap is_leaf (sym (same_head a c bs (take k (cs ++ (d ∷ ds))) h)) ∙ la in
@@ -166,7 +166,7 @@ asked_openings n (o ∷ before) k proper h =
       asked_openings n before (length (opening_asks n idx)) proper.2 (both.0 ∙ sym (take_all_asks (opening_asks n idx))),
     )
 
--- the first ask behind the start is for a fragment
+-- the first ask after the start is for a fragment
 first-append : (xs ys : List (ℕ × ℕ)) (d : ℕ × ℕ) → 1 ≤ length xs → first_ask (xs ++ ys) d ≡ first_ask xs d
 unfolding first_ask
 first-append [] ys d some = absurd (omega (arith, some))
@@ -196,5 +196,5 @@ regular-asked n (r ∷ reads) k h =
     (asked_openings n os k split.1 (ap (map ask_of) split.0 ∙ h), split.0)
   where
     by : (is : List ℕ) → ask_of r ∷ map ask_of reads ≡ take k (opening_asks n is) → is_leaf (ask_of r) ≡ true
-    by [] e = absurd (omega (arith, ap length (front (ask_of r ∷ map ask_of reads) [] k e)))
+    by [] e = absurd (omega (arith, ap length (prefix (ask_of r ∷ map ask_of reads) [] k e)))
     by (i ∷ before) e = ap is_leaf (sym (first-take k (opening_asks n (i ∷ before)) (ask_of r) (map ask_of reads) e)) ∙ first_leaf n i before (ask_of r)

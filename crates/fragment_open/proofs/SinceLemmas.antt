@@ -8,7 +8,7 @@ use Rattle.merkle_chunks.specs.declared.header.Header.{Header}
 use Rattle.fragment_open.specs.Openings.{Opening, openings, opening_at, with_next, with_read, with_sibling}
 use Rattle.fragment_open.specs.Asks.{ask_of, has_sibling, sibling_ask, sibling_asks}
 use Rattle.fragment_open.specs.Served.{header_in, header_served, top_served, whole}
-use Rattle.fragment_open.specs.Climbing.{IsAsked}
+use Rattle.fragment_open.specs.inside.Climbing.{IsAsked}
 use Rattle.fragment_open.specs.Settled.{is_start, since}
 use Rattle.fragment_open.proofs.TreeLemmas.{if_true, if_false}
 use Rattle.fragment_open.proofs.PathLemmas.{chained}
@@ -87,13 +87,13 @@ asked-no_start n i l o t a =
 
 -- ---- openings
 
-siblings_behind : (reads : List StoreRead) (o : Opening) (os : List Opening) → AreSmall (map ask_of reads)
+siblings_after : (reads : List StoreRead) (o : Opening) (os : List Opening) → AreSmall (map ask_of reads)
     → fold with_read (o ∷ os) reads ≡ record { leaf = o.leaf; siblings = o.siblings ++ reads } ∷ os
-siblings_behind [] o os h = let none : o.siblings ++ [] ≡ o.siblings = append-nil o.siblings in ap (λ (s : List StoreRead). record { leaf = o.leaf; siblings = s } ∷ os) (sym none)
-siblings_behind (r ∷ reads) o os h =
+siblings_after [] o os h = let none : o.siblings ++ [] ≡ o.siblings = append-nil o.siblings in ap (λ (s : List StoreRead). record { leaf = o.leaf; siblings = s } ∷ os) (sym none)
+siblings_after (r ∷ reads) o os h =
     let other : nat_eq r.asked 256 ≡ false = ap (λ (n : ℕ). nat_eq n 256) h.0 in
     ap (λ (l : List Opening). fold with_read l reads) (if_false (nat_eq r.asked 256) (opening_at r ∷ o ∷ os) (with_sibling o r ∷ os) other)
-    ∙ siblings_behind reads (with_sibling o r) os h.1
+    ∙ siblings_after reads (with_sibling o r) os h.1
     ∙ ap (λ (s : List StoreRead). record { leaf = o.leaf; siblings = s } ∷ os) (append_assoc o.siblings (r ∷ []) reads)
 
 fold-append : (os : List Opening) (xs ys : List StoreRead) → fold with_read os (xs ++ ys) ≡ fold with_read (fold with_read os xs) ys
@@ -115,7 +115,7 @@ openings-more n i l o s t two a =
     ∙ fold-append [] (drop 2 s) t
     ∙ ap (fold with_read os) a.all
     ∙ ap (λ (q : List Opening). fold with_read q o.siblings) (if_true (nat_eq o.leaf.asked 256) (opening_at o.leaf ∷ os) (with_next os o.leaf) big)
-    ∙ siblings_behind o.siblings (opening_at o.leaf) os (AreSmall-of n i l o.siblings a.siblings)
+    ∙ siblings_after o.siblings (opening_at o.leaf) os (AreSmall-of n i l o.siblings a.siblings)
 
 -- ---- the header and the top digest stay those of the first two reads
 

@@ -22,7 +22,7 @@ use Rattle.merkle_chunks.proofs.RangeLemmas.{document_header-in_range}
 use Rattle.fragment_open.specs.Openings.{index_of, indexes, openings}
 use Rattle.fragment_open.specs.Asks.{ask_of, header_ask, top_ask}
 use Rattle.fragment_open.specs.Served.{IsRegular, asks_by, fragments_served, header_in, header_served, root_served, top_served, whole}
-use Rattle.fragment_open.specs.Told.{GivesWhole, ReadsWhole, Told, is_whole}
+use Rattle.fragment_open.specs.CallReads.{GivesWhole, ReadsWhole, Told, is_whole}
 use Rattle.fragment_open.specs.Held.{HoldsFile, IsStoreFault, digest_held}
 use Rattle.fragment_open.specs.Starting.{AreOfStart, HoldsDocument, IsHead, IsHeadFault, IsHeadOf, IsHeaderRead, IsNoHeader, IsNoTop, IsNotStarted, IsStarted, IsTopRead}
 use Rattle.fragment_open.proofs.ClashLemmas.{and_true}
@@ -31,7 +31,7 @@ use Rattle.fragment_open.proofs.HeaderLemmas.{header_in-is, header_in-of}
 use Rattle.fragment_open.proofs.HeldLemmas.{fault_within, node_fault, node_given}
 use Rattle.fragment_open.proofs.KeyLemmas.{top_digest-is}
 use Rattle.fragment_open.proofs.PathLemmas.{chained}
-use Rattle.fragment_open.proofs.ClimbLemmas.{Told-trans, Told-weaker, all_whole-append, cut-behind, length-map_ask, map_ask-append, slice_get-behind, slice_get-longer}
+use Rattle.fragment_open.proofs.ClimbLemmas.{Told-trans, Told-weaker, all_whole-append, cut-after, length-map_ask, map_ask-append, slice_get-after, slice_get-longer}
 
 -- ---- the header's read
 
@@ -78,7 +78,7 @@ module _ (d : Doc) (key : List ℕ) (held : Option (List ℕ)) (is : HoldsDocume
   pub header_there : (into : List ℕ) → into ≡ header_bytes (document_header d key) → ((header : Header) → IsInRange header → header_bytes header ≢ into) → ⊥
   header_there into given off = off (document_header d key) theirs (sym given)
 
-  -- it has the number of fragments by that header
+  -- the file has the number of fragments that this header gives
   pub holds_file : (header : Header) → header ≡ document_header d key → HoldsFile held (fragment_count header) d key
   holds_file header same = record { holds = is.holds; count = ap fragment_count same ∙ sym (length-cipher_fragments d key is.key_bytes) }
 
@@ -117,11 +117,11 @@ pub started : (h : Header) (top : List ℕ) (t u : List StoreRead) → IsHeaderR
 started h top t u a b = record {
   asked = map_ask-append t u ∙ (λ i. a.asked i ++ b.asked i);
   header_is = header_served-longer t u h a.served;
-  top_is = ap (option_and_then (whole 32)) (slice_get-behind t u 1 (sym (asked-length t (header_ask ∷ []) a.asked))) ∙ b.served;
+  top_is = ap (option_and_then (whole 32)) (slice_get-after t u 1 (sym (asked-length t (header_ask ∷ []) a.asked))) ∙ b.served;
   all_whole = all_whole-append t u a.all_whole b.all_whole;
 }
 
--- two reads at most open nothing
+-- at most two reads open nothing
 pub no_openings : (reads : List StoreRead) → length reads ≤ 2 → openings reads ≡ []
 unfolding openings
 no_openings [] few = refl
@@ -155,7 +155,7 @@ top_fails root key h (StoreShort to) t u a b =
     let two : length (t ++ u) ≡ 2 = asked-length (t ++ u) (header_ask ∷ top_ask (fragment_count h) ∷ []) asked in (
       regular_start (t ++ u) (Some h) (header_served-longer t u h a.served) (asked ∙ ap (λ (n : ℕ). take n (header_ask ∷ top_ask (fragment_count h) ∷ [])) (sym two)) (omega (arith, two)),
       (
-        cut-behind to t u a.all_whole b.1,
+        cut-after to t u a.all_whole b.1,
         inr (h, record { served = header_served-longer t u h a.served; asked = asked }),
       ),
     )
@@ -197,7 +197,7 @@ head_fails root key h top (WrongKey want made) reads s f = (
 )
 head_fails root key h top _ reads s f = absurd f
 
--- a store that holds a document's file gives its root and its key's check
+-- where a store holds a document's file, the root and the key check are the file's
 pub head_held : (d : Doc) (root key : List ℕ) (held : Option (List ℕ)) (h : Header) (top : List ℕ) (fault : ReadFault) → HoldsDocument held d key → file_root d key ≡ root → h ≡ document_header d key
     → top ≡ digest_held d key (top_level (fragment_count h)) 0 → IsHeadFault root key h.check (sha256 (root_string (header_bytes h) top)) fault → IsStoreFault fault
 unfolding file_root root_digest
@@ -210,7 +210,7 @@ head_held d root key held h top (WrongRoot want made) is same header digest f =
 head_held d root key held h top (WrongKey want made) is same header digest f = absurd (f.3 (f.1 ∙ ap (λ (x : Header). x.check) header ∙ sym f.2))
 head_held d root key held h top _ is same header digest f = absurd f
 
--- ---- as the code says it
+-- ---- in the form of the code's contracts
 
 pub told_no_header : (root key : List ℕ) (a b : Option (List StoreRead)) (fault : ReadFault) → Told a b (IsNoHeader fault) → Told a b (IsNotStarted root key fault)
 told_no_header root key a b fault p = Told-weaker a b (IsNoHeader fault) (IsNotStarted root key fault) p (header_fails root key fault)

@@ -1,4 +1,4 @@
--- What a store tells after one opening more.
+-- What contracts see of a store (what it tells) after one more opening.
 use Rattle.std.proofs.Common.{◌≡◌, ◌≢◌, ℕ, ◌/◌, ◌<◌, false, List, ◌∷◌, ◌++◌, ◌⊎◌, sym, ap, ◌∙◌, subst, inl, inr, refl}
 use Rattle.std.specs.Prelude.{Option, Some, None, IfSome, Ok, Err, if◌then◌else◌}
 use Rattle.std.specs.List.{list_any}
@@ -11,9 +11,9 @@ use Rattle.merkle_chunks.specs.Table.{top_level}
 use Rattle.merkle_chunks.specs.declared.header.Header.{Header}
 use Rattle.position_cipher.specs.Fragments.{unlocked_fragment}
 use Rattle.fragment_open.specs.declared.kept.Kept.{Kept}
-use Rattle.fragment_open.specs.Told.{Told}
+use Rattle.fragment_open.specs.CallReads.{Told}
 use Rattle.fragment_open.specs.Openings.{indexes}
-use Rattle.fragment_open.specs.Climbing.{IsNotOpened, IsOpened}
+use Rattle.fragment_open.specs.inside.Climbing.{IsNotOpened, IsOpened}
 use Rattle.fragment_open.specs.Settled.{FetchEnds, IsSettled, Opens, Settled, goes_to_chunk, is_start, since, want_by}
 use Rattle.fragment_open.proofs.ClimbLemmas.{Told-weaker}
 use Rattle.fragment_open.proofs.SinceLemmas.{asked-no_start, since-append}

@@ -1,4 +1,4 @@
--- The way up from a fragment in a table: each string on it is made of the digest below it and the sibling's.
+-- The path from a fragment to the top of a table: each string on it is made of the digest below it and the sibling's.
 use Rattle.std.proofs.Common.{◌≡◌, ℕ, zero, suc, ◌+◌, ◌-◌, ◌*◌, ◌/◌, ◌%◌, ◌<◌, Bool, true, false, List, [], length, take, drop, get_or, sym, ap, ◌∙◌, inl, inr, arith}
 use Rattle.std.specs.Prelude.{nat_eq, if◌then◌else◌}
 use Rattle.std.proofs.lemmas.Bool.Decides.{eqb_tells, leb_tells}
@@ -28,7 +28,7 @@ index_at-chunk i = omega arith
 
 -- ---- a parent's string
 
--- a parent's string has the digest of each child
+-- a parent's string contains the digest of each child
 pub parent_parts : (k : ℕ) (a s b t : List ℕ) → length a ≡ 32 → length s ≡ 32 → length b ≡ 32 → length t ≡ 32
     → parent_string k a s ≡ parent_string k b t → a ≡ b
 parent_parts k a s b t la ls lb lt same =
@@ -66,7 +66,7 @@ module _ (hash : List ℕ → List ℕ) (frags : List (List ℕ)) where
   abbrev pub string_in : ℕ → ℕ → List ℕ
   string_in l k = get_or (strings_at hash frags l) k []
 
-  -- the digest of the sibling, or what stands for it
+  -- the digest of the sibling, or that of an absent child
   abbrev pub sibling_in : ℕ → ℕ → List ℕ
   sibling_in l k = get_or (digests_at hash frags l) (sibling_of k) absent_child
 

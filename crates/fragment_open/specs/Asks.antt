@@ -1,9 +1,9 @@
--- What a reader asks a store for: where its reads begin and how many bytes they want. This project's format.
+-- What a reader asks a store for: the byte offset and the number of bytes of each read. Defined by this project.
 use Rattle.std.specs.Prelude.{ℕ, zero, suc, ◌+◌, ◌-◌, ◌*◌, ◌/◌, ◌%◌, Bool, false, ◌&&◌, nat_eq, nat_lt, if◌then◌else◌, List, [], ◌∷◌, ◌++◌}
 use Rattle.acl_outside.specs.Outside.{StoreRead}
 use Rattle.merkle_chunks.specs.Table.{level_count, node_place, top_level}
 
--- ---- the way from a fragment up
+-- ---- the path from a fragment to the top (its Merkle path)
 
 -- the index, on a level, of the node over a fragment: the fragment's index is halved once for each level, rounded down
 abbrev pub index_at : ℕ → ℕ → ℕ
@@ -14,60 +14,60 @@ index_at index (suc level) = index_at index level / 2
 abbrev pub sibling_of : ℕ → ℕ
 sibling_of index = if nat_eq (index % 2) 0 then index + 1 else index - 1
 
--- whether a table over n fragments has the sibling at a level on the way up from a fragment
+-- whether a table over n fragments has the sibling at a level on the path from a fragment to the top
 abbrev pub has_sibling : ℕ → ℕ → ℕ → Bool
 has_sibling n index level = nat_lt (sibling_of (index_at index level)) (level_count n level)
 
--- how many siblings the table has below a level on that way
+-- how many siblings on that path the table has below a level
 abbrev pub siblings_below : ℕ → ℕ → ℕ → ℕ
 siblings_below n index zero = 0
 siblings_below n index (suc level) = siblings_below n index level + (if has_sibling n index level then 1 else 0)
 
--- whether a fragment is in the same chunk of 16 fragments as the one that was opened just before it, where there is one; the
--- newest index stands first
+-- whether a fragment is in the same chunk of 16 fragments as that of the opening just before; false where there is
+-- none. The newest index is first.
 abbrev pub same_chunk : ℕ → List ℕ → Bool
 same_chunk index [] = false
 same_chunk index (before ∷ others) = nat_eq (index / 16) (before / 16)
 
--- whether an opening goes up to the digest of its chunk alone: there are levels above it, and the opening just before was in
--- the same chunk
+-- whether an opening goes up only to the digest of its chunk: there are levels above the chunk's, and the opening just
+-- before is in the same chunk
 abbrev pub to_chunk : ℕ → ℕ → List ℕ → Bool
 to_chunk n index before = nat_lt 4 (top_level n) && same_chunk index before
 
--- the goal of an opening, by the indexes of the openings before it: level 4 where it goes up to its chunk alone, and else the
--- top level
+-- The goal of an opening is the level up to which it is hashed: level 4 where it goes up only to its chunk, and the top
+-- level elsewhere. The indexes are those of the openings before it.
 abbrev pub goal_level : ℕ → ℕ → List ℕ → ℕ
 goal_level n index before = if to_chunk n index before then 4 else top_level n
 
 -- ---- the reads of an opener
 
--- what a read asked for: its place and the number of its bytes
+-- what a read asked for: its byte offset and a number of bytes
 abbrev pub ask_of : StoreRead → ℕ × ℕ
 ask_of read = (read.at, read.asked)
 
--- what the header is asked for by
+-- the ask for the header
 abbrev pub header_ask : ℕ × ℕ
 header_ask = (0, 64)
 
--- what the top digest over n fragments is asked for by
+-- the ask for the top digest over n fragments
 abbrev pub top_ask : ℕ → ℕ × ℕ
 top_ask n = (node_place n (top_level n) 0, 32)
 
--- what the bytes of a fragment are asked for by
+-- the ask for the bytes of a fragment
 abbrev pub leaf_ask : ℕ → ℕ × ℕ
 leaf_ask index = (64 + 256 * index, 256)
 
--- what the sibling at a level is asked for by, where the table has it
+-- the ask for the sibling at a level, where the table has it, and none elsewhere
 abbrev pub sibling_ask : ℕ → ℕ → ℕ → List (ℕ × ℕ)
 sibling_ask n index level = if has_sibling n index level then ((node_place n level (sibling_of (index_at index level)), 32) ∷ []) else []
 
--- what the siblings below a level are asked for by, from level 0 up
+-- the asks for the siblings below a level, from level 0 up
 abbrev pub sibling_asks : ℕ → ℕ → ℕ → List (ℕ × ℕ)
 sibling_asks n index zero = []
 sibling_asks n index (suc level) = sibling_asks n index level ++ sibling_ask n index level
 
--- what fragments are opened by, one after another, each by its bytes and its siblings up to its goal; the newest index stands
--- first
+-- the asks of openings, one after another: for each fragment its bytes, and then its siblings up to its goal. The
+-- newest index is first.
 abbrev pub opening_asks : ℕ → List ℕ → List (ℕ × ℕ)
 opening_asks n [] = []
 opening_asks n (index ∷ before) = opening_asks n before ++ (leaf_ask index ∷ sibling_asks n index (goal_level n index before))

@@ -1,4 +1,4 @@
--- Reads that were checked against a root, and reads of a store that holds a file. This project's own.
+-- Reads that were checked against a root, and reads of a store that holds a file. Defined by this project.
 use Rattle.std.specs.Prelude.{◌≡◌, ℕ, Bool, true, false, Some, Result, Ok, Err, List, [], ◌∷◌, take, drop}
 use Rattle.sha2.specs.Sha256.{sha256}
 use Rattle.acl_outside.specs.Outside.{StoreRead}
@@ -8,24 +8,24 @@ use Rattle.merkle_chunks.specs.HeaderBytes.{fragment_count}
 use Rattle.merkle_chunks.specs.declared.header.Header.{Header}
 use Rattle.fragment_open.specs.Openings.{openings}
 use Rattle.fragment_open.specs.Served.{fragments_served, header_served, top_served}
-use Rattle.fragment_open.specs.Good.{AreGood}
+use Rattle.fragment_open.specs.Good.{AllFoldAsWanted}
 use Rattle.fragment_open.specs.Settled.{FoldAsWanted, root_by}
 
--- The reads served this header and this top digest, the root made by them is this one, and each opening was good.
-pub record AreChecked (root : List ℕ) (header : Header) (top : List ℕ) (reads : List StoreRead) : Type 0 where
+-- The reads served this header and this top digest, the root made of them is `root`, and each opening was good.
+pub record AreVerifiedUnder (root : List ℕ) (header : Header) (top : List ℕ) (reads : List StoreRead) : Type 0 where
   pub header_is : header_served reads ≡ Some header
   pub top_is : top_served reads ≡ Some top
   pub root_is : root_by header top ≡ root
-  pub good : AreGood sha256 (fragment_count header) top (openings reads)
+  pub good : AllFoldAsWanted sha256 (fragment_count header) top (openings reads)
 
--- each read gave the bytes of a file from its place on, cut at the file's end
+-- each read gave the bytes of a file from its offset on, cut at the file's end
 abbrev pub AreReadsOf : List ℕ → List StoreRead → Type 0
 AreReadsOf file [] = Unit {0}
 AreReadsOf file (read ∷ reads) = (read.bytes ≡ take read.asked (drop read.at file)) × AreReadsOf file reads
 
 -- ---- each opening was checked
 
--- whether a fault is the refusal of a fragment, by what its opening folds to
+-- whether a fault is the refusal of a fragment by its digest
 abbrev pub refuses_fragment : ReadFault → Bool
 refuses_fragment (BadFragment index want made) = true
 refuses_fragment BadHeader = false
@@ -40,9 +40,9 @@ abbrev pub is_bad_fragment : {T : Type 0} → Result T ReadFault → Bool
 is_bad_fragment (Ok value) = false
 is_bad_fragment (Err fault) = refuses_fragment fault
 
--- The openings of reads were checked one by one: each but the newest was good, and the newest, where
--- it came to its goal, folds to what is wanted of it, unless it is the one that is refused.
-pub record AreOpeningsChecked (refused : Bool) (reads : List StoreRead) : Type 0 where
+-- The openings of reads were checked one by one: each but the newest was good. Where the newest reached its goal and is
+-- not the refused one, it folds to the wanted digest.
+pub record AllFoldUnlessRefused (refused : Bool) (reads : List StoreRead) : Type 0 where
   pub earlier : (top : List ℕ) → top_served reads ≡ Some top
-      → AreGood sha256 (fragments_served reads) top (drop 1 (openings reads))
+      → AllFoldAsWanted sha256 (fragments_served reads) top (drop 1 (openings reads))
   pub newest : refused ≡ false → FoldAsWanted reads

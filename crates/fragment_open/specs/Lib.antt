@@ -5,10 +5,9 @@ pub mod Served
 pub mod Hashed
 pub mod Good
 pub mod Clash
-pub mod Told
-pub mod Climbing
+pub mod CallReads
 pub mod Held
 pub mod Starting
 pub mod Settled
-pub mod SettledProps
 pub mod Checked
+pub mod inside

@@ -1,4 +1,4 @@
--- What an opener's reads say between its calls, and how a call of it ends. This project's own.
+-- What is true of an opener's reads between its calls, and how a call of it ends. Defined by this project.
 use Rattle.std.specs.Prelude.{◌≡◌, ◌≢◌, ◌⊎◌, ℕ, ◌/◌, ◌<◌, Bool, true, false, ◌&&◌, nat_eq, nat_lt, if◌then◌else◌, is_some, Option, Some, None, IfSome, Result, Ok, Err, List, [], ◌∷◌, ◌++◌, map, slice_index_or}
 use Rattle.std.specs.List.{list_all, list_any}
 use Rattle.sha2.specs.Sha256.{sha256}
@@ -19,19 +19,19 @@ use Rattle.fragment_open.specs.Plain.{newest_plain, plain_served}
 use Rattle.fragment_open.specs.Asks.{ask_of}
 use Rattle.fragment_open.specs.Served.{IsRegular, asks_by, header_served, top_served}
 use Rattle.fragment_open.specs.Hashed.{chunk_digest, folded, wanted}
-use Rattle.fragment_open.specs.Good.{AreGood}
+use Rattle.fragment_open.specs.Good.{AllFoldAsWanted}
 use Rattle.fragment_open.specs.Clash.{reads_clash}
-use Rattle.fragment_open.specs.Told.{IsCut, is_whole}
+use Rattle.fragment_open.specs.CallReads.{IsCut, is_whole}
 use Rattle.fragment_open.specs.Held.{IsStoreFault, digest_held}
 use Rattle.fragment_open.specs.Starting.{HoldsDocument, IsHeadOf}
 
 -- ---- the reads of one opener
 
--- whether a read asks for a header: each opener begins with its only such read
+-- whether a read asks for a header. Only the first read of an opener does.
 abbrev pub is_start : StoreRead → Bool
 is_start read = nat_eq read.asked 64
 
--- the reads from the last one on that asked for a header: those of the opener that began with it
+-- the reads from the last one on that asked for a header: those of the newest opener
 unfoldable pub since : List StoreRead → List StoreRead
 since [] = []
 since (read ∷ reads) = if list_any is_start reads then since reads else read ∷ reads
@@ -42,37 +42,38 @@ root_by header top = sha256 (root_string (header_bytes header) top)
 
 -- ---- between calls
 
--- what is kept of the newest opening, where there is one: the number of its chunk and, where there are levels above it, the chunk's
--- digest
+-- What is kept is of the newest opening: the number of its chunk and, where there are levels above, the chunk's digest.
+-- Something is kept exactly where there is an opening.
 abbrev pub IsKept : ℕ → Option Kept → List Opening → Type 0
 IsKept n None [] = Unit {0}
 IsKept n None (opening ∷ before) = ⊥
 IsKept n (Some kept) [] = ⊥
 IsKept n (Some kept) (opening ∷ before) = (kept.chunk ≡ index_of opening / 16) × (4 < top_level n → chunk_digest sha256 n (opening ∷ before) ≡ Some kept.digest)
 
--- The reads of an opener under a header and a top digest, of which none was refused: they served these, are all those that an
--- opener makes for the fragments that were opened, came whole, and each opening was good.
+-- The reads of an opener are settled under a header and a top digest: nothing was refused. They served these two, are
+-- exactly those that an opener makes for these openings, and are whole. Each opening was good, and what is kept is of
+-- the newest.
 pub record IsSettled (header : Header) (top : List ℕ) (kept : Option Kept) (reads : List StoreRead) : Type 0 where
   pub header_is : header_served reads ≡ Some header
   pub top_is : top_served reads ≡ Some top
   pub asked : map ask_of reads ≡ asks_by (Some header) (indexes reads)
   pub all_whole : list_all is_whole reads ≡ true
-  pub good : AreGood sha256 (fragment_count header) top (openings reads)
+  pub good : AllFoldAsWanted sha256 (fragment_count header) top (openings reads)
   pub kept_is : IsKept (fragment_count header) kept (openings reads)
 
--- this holds of the reads of an opener that has not refused, where the store tells what it served
+-- the reads of an opener that has not refused are settled, where the store tells what it served
 abbrev pub Settled : Option (List StoreRead) → Header → List ℕ → Option Kept → Option ReadFault → Type 0
 Settled None header top kept fault = Unit {0}
 Settled (Some all) header top kept (Some fault) = Unit {0}
 Settled (Some all) header top kept None = IsSettled header top kept (since all)
 
--- what is kept is the file's, where there are levels above a chunk
+-- the kept digest is that of the file's chunk, where there are levels above a chunk
 abbrev pub IsKeptOf : Doc → List ℕ → ℕ → Option Kept → Type 0
 IsKeptOf d key top None = Unit {0}
 IsKeptOf d key top (Some kept) = 4 < top → kept.digest ≡ digest_held d key 4 kept.chunk
 
--- where the store holds the file of a document under the key, with the root that header and top digest make, they are the file's,
--- and so is what is kept
+-- Where the store holds the file of a document under the key, with the root made of header and top digest, these two
+-- and what is kept are the file's.
 abbrev pub AreHeld : Option (List ℕ) → Header → List ℕ → List ℕ → Option Kept → Type 0
 AreHeld held header top key kept =
     (d : Doc) → HoldsDocument held d key → file_root d key ≡ root_by header top
@@ -80,9 +81,9 @@ AreHeld held header top key kept =
 
 -- ---- how a call ends
 
--- A fragment was opened: the reads are those that an opener makes and came whole, the newest opening is of it and folds to what is wanted, the
--- bytes are the plain ones of that opening, and they are the document's fragment, whatever document's file has the root, or there is a clash with
--- its strings.
+-- A fragment was opened. The reads are those that an opener makes, and are whole. The newest opening is of this
+-- fragment and folds to the wanted digest, and the bytes are its plain bytes. They are the fragment of each document
+-- whose file has the root, unless there is a clash with its strings.
 pub record IsFetched (index : ℕ) (header : Header) (top key bytes : List ℕ) (reads : List StoreRead) : Type 0 where
   pub regular : IsRegular reads
   pub all_whole : list_all is_whole reads ≡ true
@@ -93,12 +94,13 @@ pub record IsFetched (index : ℕ) (header : Header) (top key bytes : List ℕ) 
   pub gives : (d : Doc) → is_document d ≡ true → HasRoot d key (root_by header top) → reads_clash reads d key ≡ false
       → bytes ≡ slice_index_or (fragments (plain d)) index []
 
--- no refusal stands in the reads: where the newest opening came to its goal, it folds to what is wanted of it
+-- the reads show no refusal: where the newest opening reached its goal, it folds to the wanted digest
 abbrev pub FoldAsWanted : List StoreRead → Type 0
 FoldAsWanted reads = (made : List ℕ) → folded sha256 reads ≡ Some made → wanted sha256 reads ≡ Some made
 
--- why a fragment was refused, by the reads: one came short, or all came whole and the store failed, and neither way the newest
--- opening folds to another digest than the wanted one; or all came whole and the newest opening, of this fragment, does
+-- Why a fragment was refused, according to the reads. `StoreShort`: the last read is short, and the reads show no
+-- refusal. `StoreFault`: all are whole, and they show no refusal. `BadFragment`: all are whole, and the newest opening
+-- is of this fragment and folds to another digest than the wanted one.
 abbrev pub IsFetchCause : ℕ → ReadFault → List StoreRead → Type 0
 IsFetchCause index (StoreShort to) reads = IsCut to reads × FoldAsWanted reads
 IsFetchCause index StoreFault reads = (list_all is_whole reads ≡ true) × FoldAsWanted reads
@@ -110,45 +112,44 @@ IsFetchCause index (WrongRoot want made) reads = ⊥
 IsFetchCause index (WrongKey want made) reads = ⊥
 IsFetchCause index BadIndex reads = ⊥
 
--- how an opener that has not refused answers, by its reads after the call
+-- the answer of an opener that had not refused, and its reads after the call
 abbrev pub FetchEnds : {T : Type 0} → Result T ReadFault → ℕ → Header → List ℕ → List ℕ → List ℕ → List StoreRead → Type 0
 FetchEnds (Ok done) index header top key bytes reads = IsFetched index header top key bytes reads
 FetchEnds (Err fault) index header top key bytes reads = IsRegular reads × IsFetchCause index fault reads
 
--- what a call of an opener adds to the fragments that were opened, the newest first: this one after Ok, and after a refusal this
--- one or none
+-- what a call adds to the indexes of the openings (the newest first): its own fragment after Ok, and that one or none
+-- after a refusal
 abbrev pub OpensOne : {T : Type 0} → Result T ReadFault → ℕ → List ℕ → List ℕ → Type 0
 OpensOne (Ok done) index before after = after ≡ index ∷ before
 OpensOne (Err fault) index before after = (after ≡ index ∷ before) ⊎ (after ≡ before)
 
--- so a call adds to those opened since the opener's start, where the store tells what it served before and after
+-- a call adds this to the openings since the opener's start, where the store tells what it served before and after
 abbrev pub Opens : {T : Type 0} → Result T ReadFault → ℕ → Option (List StoreRead) → Option (List StoreRead) → Type 0
 Opens result index before after =
     IfSome before (λ old. IfSome after (λ new. OpensOne result index (indexes (since old)) (indexes (since new))))
 
--- after Ok the plain bytes of the fragments opened since the opener's start are those of before and,
--- behind them, the bytes that the call gave
+-- after Ok the plain bytes of the openings since the opener's start are those before the call, followed by the bytes
+-- that the call gave
 abbrev pub AddsPlain : {T : Type 0} → Result T ReadFault → List ℕ → List ℕ → Option (List StoreRead) → Option (List StoreRead) → Type 0
 AddsPlain (Ok done) key bytes before after =
     IfSome before (λ old. IfSome after (λ new.
     plain_served key (since new) ≡ plain_served key (since old) ++ bytes))
 AddsPlain (Err fault) key bytes before after = Unit {0}
 
--- a call of an opener left its fragment unopened: it added no opening, or the newest one didn't come
--- to its goal
-abbrev pub OpensNone : Option (List StoreRead) → Option (List StoreRead) → Type 0
-OpensNone before after =
+-- a call left its fragment unopened: it added no opening, or the newest opening didn't reach its goal
+abbrev pub CompletesNone : Option (List StoreRead) → Option (List StoreRead) → Type 0
+CompletesNone before after =
     IfSome before (λ old. IfSome after (λ new.
     (indexes (since new) ≡ indexes (since old)) ⊎ (folded sha256 (since new) ≡ None)))
 
--- ---- the aim of the next opening, by what is kept
+-- ---- the goal of the next opening, given what is kept
 
--- whether it goes up to its chunk alone: there are levels above, and the digest of that chunk is kept
+-- whether it goes up only to its chunk: there are levels above, and the digest of that chunk is kept
 abbrev pub goes_to_chunk : ℕ → ℕ → Option Kept → Bool
 goes_to_chunk top index None = false
 goes_to_chunk top index (Some kept) = nat_lt 4 top && nat_eq (index / 16) kept.chunk
 
--- the digest that is wanted at its goal: the kept one, or that of the top
+-- the digest that is wanted at its goal: the kept one, or the top digest
 abbrev pub want_by : ℕ → ℕ → Option Kept → List ℕ → List ℕ
 want_by level index None top = top
 want_by level index (Some kept) top = if goes_to_chunk level index (Some kept) then kept.digest else top
@@ -160,7 +161,7 @@ abbrev pub IsQuiet : Option ReadFault → Type 0
 IsQuiet None = Unit {0}
 IsQuiet (Some fault) = IsStoreFault fault
 
--- where the store holds the file of a document under the key, with the root that header and top digest make, nothing was refused but
--- by the store's own failure
+-- Where the store holds the file of a document under the key, with the root made of header and top digest, there is no
+-- refusal but the store's own failure.
 abbrev pub IsQuietIfHeld : Option (List ℕ) → Header → List ℕ → List ℕ → Option ReadFault → Type 0
 IsQuietIfHeld held header top key fault = (d : Doc) → HoldsDocument held d key → file_root d key ≡ root_by header top → IsQuiet fault

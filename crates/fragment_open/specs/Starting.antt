@@ -1,4 +1,4 @@
--- How a reader starts on a store: by the header and the top digest. This project's format.
+-- How a reader starts on a store: with the header and the top digest. Defined by this project.
 use Rattle.std.specs.Prelude.{◌≡◌, ◌≢◌, ◌⊎◌, ℕ, true, Option, Some, None, option_map, option_and_then, List, [], ◌∷◌, map}
 use Rattle.std.specs.List.{list_all, slice_get}
 use Rattle.sha2.specs.Sha256.{sha256}
@@ -16,18 +16,18 @@ use Rattle.merkle_chunks.specs.Table.{top_level}
 use Rattle.merkle_chunks.specs.declared.header.Header.{Header}
 use Rattle.fragment_open.specs.Asks.{ask_of, header_ask, top_ask}
 use Rattle.fragment_open.specs.Served.{IsRegular, header_served, root_served, top_served, whole}
-use Rattle.fragment_open.specs.Told.{IsCut, is_whole}
+use Rattle.fragment_open.specs.CallReads.{IsCut, is_whole}
 use Rattle.fragment_open.specs.Held.{digest_held}
 
 -- ---- what was read
 
--- The reads are the one of a header, and this is the header served.
+-- The reads are the single read of a header, which is whole, and `header` is the header served.
 pub record IsHeaderRead (header : Header) (reads : List StoreRead) : Type 0 where
   pub asked : map ask_of reads ≡ header_ask ∷ []
   pub served : header_served reads ≡ Some header
   pub all_whole : list_all is_whole reads ≡ true
 
--- a header was not read: its read came short, what came is none, or the store failed
+-- a header was not read: its read was short, its bytes are not a header, or the store failed
 abbrev pub IsNoHeader : ReadFault → List StoreRead → Type 0
 IsNoHeader BadHeader reads = (map ask_of reads ≡ header_ask ∷ []) × (header_served reads ≡ None) × (list_all is_whole reads ≡ true)
 IsNoHeader (StoreShort to) reads = (map ask_of reads ≡ header_ask ∷ []) × (header_served reads ≡ None) × IsCut to reads
@@ -37,13 +37,13 @@ IsNoHeader (WrongKey want made) reads = ⊥
 IsNoHeader (BadFragment index want made) reads = ⊥
 IsNoHeader BadIndex reads = ⊥
 
--- The reads are the one of the top digest over n fragments, and it gave this digest.
+-- The reads are the single read of the top digest over n fragments, which is whole and gave `top`.
 pub record IsTopRead (n : ℕ) (top : List ℕ) (reads : List StoreRead) : Type 0 where
   pub asked : map ask_of reads ≡ top_ask n ∷ []
   pub served : option_and_then (whole 32) (slice_get reads 0) ≡ Some top
   pub all_whole : list_all is_whole reads ≡ true
 
--- a top digest was not read: its read came short, or the store failed
+-- a top digest was not read: its read was short, or the store failed
 abbrev pub IsNoTop : ℕ → ReadFault → List StoreRead → Type 0
 IsNoTop n (StoreShort to) reads = (map ask_of reads ≡ top_ask n ∷ []) × IsCut to reads
 IsNoTop n StoreFault reads = reads ≡ []
@@ -53,22 +53,24 @@ IsNoTop n (WrongKey want made) reads = ⊥
 IsNoTop n (BadFragment index want made) reads = ⊥
 IsNoTop n BadIndex reads = ⊥
 
--- The reads are those of a start: of a header and of the top digest by it, which served these.
+-- The reads are the two of a start, and are whole: that of the header, and that of the top digest for it. They served
+-- these.
 pub record IsStarted (header : Header) (top : List ℕ) (reads : List StoreRead) : Type 0 where
   pub asked : map ask_of reads ≡ header_ask ∷ top_ask (fragment_count header) ∷ []
   pub header_is : header_served reads ≡ Some header
   pub top_is : top_served reads ≡ Some top
   pub all_whole : list_all is_whole reads ≡ true
 
--- The reads are the two of a start: that of a header, which is the one served, and that of the top digest by it.
+-- The reads are the two of a start: that of the header, which is the one served, and that of the top digest for it.
 pub record AreOfStart (header : Header) (reads : List StoreRead) : Type 0 where
   pub served : header_served reads ≡ Some header
   pub asked : map ask_of reads ≡ header_ask ∷ top_ask (fragment_count header) ∷ []
 
--- why a start under a root and a key was refused, by its reads: what was served as a header is none; the read of the header came
--- short, or the second of the two reads of a start; the store failed before a read or behind that of a header; these two came
--- whole, and the root string served has another digest than the root, or it has that one, and the key another check than the
--- header
+-- Why a start under a root and a key was refused, according to its reads. `BadHeader`: the header's read is whole, and
+-- served no header. `StoreShort`: the header's read was short, or the second of the two reads of a start. `StoreFault`:
+-- there was no read, or only that of the header. `WrongRoot`: the two reads of a start are whole, and the root string
+-- served has another digest than the root. `WrongKey`: they are whole, that digest is the root, and the key has another
+-- check than the header.
 abbrev pub IsStartCause : List ℕ → List ℕ → ReadFault → List StoreRead → Type 0
 IsStartCause root key BadHeader reads = (map ask_of reads ≡ header_ask ∷ []) × (header_served reads ≡ None) × (list_all is_whole reads ≡ true)
 IsStartCause root key (StoreShort to) reads =
@@ -83,13 +85,13 @@ IsStartCause root key (WrongKey want made) reads =
 IsStartCause root key (BadFragment index want made) reads = ⊥
 IsStartCause root key BadIndex reads = ⊥
 
--- a start under a root and a key was refused: its reads are the first of those that an opener makes, and show why
+-- a start under a root and a key was refused: its reads are regular, and show the cause
 abbrev pub IsNotStarted : List ℕ → List ℕ → ReadFault → List StoreRead → Type 0
 IsNotStarted root key fault reads = IsRegular reads × IsStartCause root key fault reads
 
 -- ---- what a store that holds a file gives
 
--- A store holds the file of a document under a key of 16 bytes.
+-- A store holds the file, under a key of 16 bytes, of a document that has a stream.
 pub record HoldsDocument (held : Option (List ℕ)) (d : Doc) (key : List ℕ) : Type 0 where
   pub holds : held ≡ Some (file d key)
   pub document : is_document d ≡ true
@@ -101,9 +103,10 @@ pub record IsHeadOf (d : Doc) (key : List ℕ) (header : Header) (top : List ℕ
   pub header_is : header ≡ document_header d key
   pub top_is : top ≡ digest_held d key (top_level (fragment_count header)) 0
 
--- ---- what is checked by them
+-- ---- the checks of a start
 
--- The header and the top digest are taken as they were read, under a root that is made by them and a key that has the header's check.
+-- The header, the top digest and the key are taken as they were given, the root made of the header and the top digest
+-- is `root`, and the key has the header's check.
 pub record IsHead (root key : List ℕ) (header : Header) (top : List ℕ) (taken : Header) (taken_top taken_key made : List ℕ) : Type 0 where
   pub header_is : taken ≡ header
   pub top_is : taken_top ≡ top
@@ -111,7 +114,8 @@ pub record IsHead (root key : List ℕ) (header : Header) (top : List ℕ) (take
   pub root_is : made ≡ root
   pub check_is : key_check key ≡ header.check
 
--- why they were refused: the root made by them is another, or it is the right one and the key has another check
+-- why a header and a top digest were refused: the root made of them is not `root`, or it is, and the key has another
+-- check
 abbrev pub IsHeadFault : List ℕ → List ℕ → List ℕ → List ℕ → ReadFault → Type 0
 IsHeadFault root key check made (WrongRoot want other) = (want ≡ root) × (other ≡ made) × (want ≢ other)
 IsHeadFault root key check made (WrongKey want other) = (made ≡ root) × (want ≡ check) × (other ≡ key_check key) × (want ≢ other)
@@ -121,7 +125,7 @@ IsHeadFault root key check made StoreFault = ⊥
 IsHeadFault root key check made (BadFragment index want other) = ⊥
 IsHeadFault root key check made BadIndex = ⊥
 
--- A header and a top digest are under a root, and the key is one whose check is the header's.
+-- The root made of the header and the top digest is `root`, and `taken_key` is the key, which has the header's check.
 pub record IsUnder (root key : List ℕ) (header : Header) (top taken_key : List ℕ) : Type 0 where
   pub root_is : sha256 (root_string (header_bytes header) top) ≡ root
   pub key_is : taken_key ≡ key

@@ -1,4 +1,4 @@
-//! The way from a fragment's digest up the table, level by level.
+//! Hashes from a fragment's digest up the table, level by level (its Merkle path).
 ghost use Rattle.std.specs.Prelude.{◌≡◌, ◌+◌, ◌<◌, ◌≤◌, length, ◌↔◌, ℕ, List, IfOk, IsErrOf, MatchResult, OnOk, IfErr};
 ghost use Rattle.sha2.specs.Sha256.{sha256};
 ghost use Rattle.acl_model.specs.declared.document.Doc.{Doc};
@@ -6,22 +6,22 @@ ghost use Rattle.acl_outside.specs.Outside.{NotFallen, Rose};
 ghost use Rattle.merkle_chunks.specs.Table.{count_below, level_count, node_place, top_level};
 ghost use Rattle.fragment_open.specs.Asks.{has_sibling, index_at, sibling_of};
 ghost use Rattle.fragment_open.specs.Hashed.{parent_string};
-ghost use Rattle.fragment_open.specs.Told.{Told};
-ghost use Rattle.fragment_open.specs.Climbing.{Climbs, Ends, IsNext, IsSibling, LacksSibling};
+ghost use Rattle.fragment_open.specs.CallReads.{Told};
+ghost use Rattle.fragment_open.specs.inside.Climbing.{Climbs, Ends, IsNext, IsSibling, LacksSibling};
 ghost use Rattle.fragment_open.specs.Held.{GivesOrFails, HoldsFile, IsQuietElse, digest_held, sibling_held};
 
 use crate::last::Last;
 use crate::reading::read_whole;
 use acl_outside::{ReadFault, Store};
 
-/// A digest on a level, with what places it in the table.
+/// A digest on a level, with its position in the table.
 #[derive(Clone, Copy)]
 pub(crate) struct Climb {
     fragments: u32,
     index: u32,
     level: u32,
     digest: [u8; 32],
-    // The index on the level, the digests on it, and those below it.
+    // The index on the level, the number of digests on it, and the number on the levels below.
     at: u32,
     here: u32,
     below: u32,
@@ -34,7 +34,7 @@ pub(crate) struct Climb {
 }
 
 impl Climb {
-    /// At the digest of a fragment.
+    /// The position at the digest of a fragment.
     pub(crate) fn at_leaf(fragments: u32, index: u32, digest: [u8; 32]) -> Climb
         requires few { fragments ≤ 131072 }
         requires within { index < fragments }
@@ -72,7 +72,7 @@ impl Climb {
         }
     }
 
-    /// At the parent's digest, by that of the sibling.
+    /// The parent's digest, from that of the sibling.
     fn above(self, sibling: &[u8; 32], last: &mut Last) -> Climb
         requires { self.level < top_level self.fragments }
         ensures fragments { result.fragments ≡ self.fragments }
@@ -98,7 +98,7 @@ impl Climb {
     }
 }
 
-/// The digest of a sibling, or zeros where the table doesn't have it, which takes no read.
+/// Reads the digest of the sibling. Where the table doesn't have it, the answer is zeros, without a read.
 fn read_sibling<S: Store>(store: &mut S, climb: &Climb) -> Result<[u8; 32], ReadFault>
     requires { climb.now.level < top_level climb.now.fragments }
     ensures told { Told (S.served store.old) (S.served store.new) (λ reads. MatchResult result
@@ -118,14 +118,14 @@ fn read_sibling<S: Store>(store: &mut S, climb: &Climb) -> Result<[u8; 32], Read
     let mut digest = [0; 32];
     let sibling = climb.sibling();
     if sibling < climb.here {
-        let behind = u64::from(climb.below) + u64::from(sibling);
-        let place = 64 + 256 * u64::from(climb.fragments) + 32 * behind;
+        let after = u64::from(climb.below) + u64::from(sibling);
+        let place = 64 + 256 * u64::from(climb.fragments) + 32 * after;
         read_whole(store, place, &mut digest)?;
     }
     Ok(digest)
 }
 
-/// One level up, by the sibling that the store gives.
+/// Goes one level up, with the sibling that the store gives.
 fn step<S: Store>(store: &mut S, climb: Climb, last: &mut Last) -> Result<Climb, ReadFault>
     requires { climb.level < top_level climb.fragments }
     ensures told { Told (S.served store.old) (S.served store.new) (λ reads. MatchResult result
@@ -148,7 +148,7 @@ fn step<S: Store>(store: &mut S, climb: Climb, last: &mut Last) -> Result<Climb,
     Ok(climb.above(&sibling, last))
 }
 
-/// Up to a level, by the siblings that the store gives.
+/// Goes up to a level, with the siblings that the store gives.
 pub(crate) fn climb_to<S: Store>(
     store: &mut S,
     from: Climb,

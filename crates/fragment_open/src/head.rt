@@ -1,4 +1,5 @@
-//! What an opener knows of a file before it opens a fragment: the header and the top digest, under the right root and key.
+//! What an opener knows of a file before it opens a fragment: the header and the top digest, checked against the root
+//! and the key.
 ghost use Rattle.std.specs.Prelude.{◌≡◌, ◌≢◌, ◌≤◌, ℕ, List, None, IfOk, IsErrOf, MatchResult, OnOk, IfErr};
 ghost use Rattle.sha2.specs.Sha256.{sha256};
 ghost use Rattle.acl_model.specs.declared.document.Doc.{Doc};
@@ -9,7 +10,7 @@ ghost use Rattle.merkle_chunks.specs.File.{document_header, file_root, key_check
 ghost use Rattle.merkle_chunks.specs.Strings.{root_string};
 ghost use Rattle.merkle_chunks.specs.Table.{top_level};
 ghost use Rattle.merkle_chunks.specs.Table.{top_level as top_level_of};
-ghost use Rattle.fragment_open.specs.Told.{Told};
+ghost use Rattle.fragment_open.specs.CallReads.{Told};
 ghost use Rattle.fragment_open.specs.Held.{GivesOrFails, HoldsFile, IsQuietElse, IsStoreFault, digest_held};
 ghost use Rattle.fragment_open.specs.Settled.{AreHeld, Settled};
 ghost use Rattle.fragment_open.specs.Starting.{HoldsDocument, IsHead, IsHeadFault, IsHeadOf, IsHeaderRead, IsNoHeader, IsNoTop, IsNotStarted, IsStarted, IsTopRead, IsUnder};
@@ -69,7 +70,7 @@ fn read_top<S: Store>(store: &mut S, fragments: u32) -> Result<[u8; 32], ReadFau
     Ok(top)
 }
 
-/// The header and the top digest of a store under the right root and key.
+/// The header and the top digest of a store, checked against the root and the key.
 #[derive(Drop)]
 pub struct Head {
     pub(crate) header: Header,
@@ -85,8 +86,8 @@ pub struct Head {
 }
 
 impl Head {
-    /// By a header and a top digest that were read: `WrongRoot` where they don't have the root, and `WrongKey` where the key
-    /// has another check than the header.
+    /// Checks a header and a top digest that were read. The answer is `WrongRoot` where they don't have the root, and
+    /// else `WrongKey` where the key has another check than the header.
     fn checked(
         header: Header,
         top: [u8; 32],
@@ -127,8 +128,9 @@ impl Head {
     }
 }
 
-/// Starts on a store: reads the header and the top digest, and checks the root and then the key. Each of the two reads may end
-/// in `StoreFault` or `StoreShort`. Behind the first comes `BadHeader`, behind the second `WrongRoot`, and then `WrongKey`.
+/// Starts on a store: reads the header and the top digest, and checks the root and then the key. Each of the two reads
+/// may end in `StoreFault` or `StoreShort`. `BadHeader` is found after the first read, and `WrongRoot` and then
+/// `WrongKey` after the second.
 pub fn begin<S: Store>(store: &mut S, root: [u8; 32], key: [u8; 16]) -> Result<Head, ReadFault>
     ensures told { Told (S.served store.old) (S.served store.new) (λ reads. MatchResult result
         (λ head. IsStarted head.header head.top reads)

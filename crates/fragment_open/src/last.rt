@@ -1,12 +1,12 @@
-//! The node that was hashed last on a level. Fragments that are opened in order share most nodes above them, so most need not be
-//! hashed again.
+//! A cache of the node that was hashed last on a level. Fragments that are opened in order share most nodes above them,
+//! so most nodes need not be hashed again.
 ghost use Rattle.std.specs.Prelude.{◌≡◌};
 ghost use Rattle.sha2.specs.Sha256.{sha256};
 ghost use Rattle.merkle_chunks.specs.Strings.{node_string};
 
 use merkle_chunks::node_digest;
 
-/// The digests of two children, and that of their node.
+/// The digests of two children, and the digest of their node.
 #[derive(Clone, Copy)]
 pub(crate) struct Last {
     left: [u8; 32],
@@ -16,7 +16,7 @@ pub(crate) struct Last {
 }
 
 impl Last {
-    /// That of zeros, where nothing was hashed before.
+    /// The node over two children of zeros, before any other was hashed.
     pub(crate) fn of_zeros() -> Last {
         let left = [0; 32];
         let right = [0; 32];
@@ -28,7 +28,7 @@ impl Last {
         }
     }
 
-    /// The digest of a node, which is hashed where it isn't byte for byte the last one.
+    /// The digest of a node. It is hashed only where its children aren't byte for byte those of the last node.
     pub(crate) fn digest_over(&mut self, left: &[u8; 32], right: &[u8; 32]) -> [u8; 32]
         ensures { result ≡ sha256 (node_string left.now right.now) }
     {

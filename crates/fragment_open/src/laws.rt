@@ -1,5 +1,5 @@
-//! What the definitions say: of the words of reads, of clashes, and of good reads under a document's root. These functions do
-//! nothing: their contracts are the laws.
+//! Laws of the definitions: of reads, of clashes (collisions of two strings with one name and one digest), and of good
+//! reads under a document's root. The functions do nothing; their contracts are the laws.
 ghost use Rattle.std.specs.Prelude.{◌≡◌, ◌↔◌, ℕ, List, [], ◌∷◌, ◌++◌, Some, true, false, slice_index_or};
 ghost use Rattle.std.specs.List.{list_any};
 ghost use Rattle.acl_model.specs.Document.{is_document};
@@ -16,16 +16,17 @@ ghost use Rattle.fragment_open.specs.Asks.{opening_asks};
 ghost use Rattle.fragment_open.specs.Served.{IsRegular, header_in};
 ghost use Rattle.fragment_open.specs.Clash.{IsClash, has_clash, reads_clash};
 ghost use Rattle.fragment_open.specs.Settled.{is_start, since};
-ghost use Rattle.fragment_open.specs.Checked.{AreChecked, AreReadsOf};
+ghost use Rattle.fragment_open.specs.Checked.{AreVerifiedUnder, AreReadsOf};
 
-/// The header served is the one whose bytes were served, where they are one's, and there is only one.
+/// The header in bytes is the header with exactly these bytes, where there is one.
 pub fn a_header_served_has_the_bytes()
     ensures { (bytes : List ℕ) (h : Header)
         → header_in bytes ≡ Some h ↔ IsInRange h × (header_bytes h ≡ bytes) }
 {}
 
-/// What fragments 40, 36 and 31 of 41, opened in that order, ask for: the first goes up to the top, and two of its siblings are on
-/// the table; the second is in its chunk and goes up to the chunk; the third is in the chunk before and goes up to the top.
+/// What the openings of fragments 40, 36 and 31 of 41, in that order, ask for. The first goes up to the top, and two of
+/// its siblings are on the table. The second is in the same chunk and goes up only to the chunk. The third is in the
+/// chunk before and goes up to the top.
 pub fn three_openings_of_forty_one()
     ensures { opening_asks 41 (31 ∷ 36 ∷ 40 ∷ [])
         ≡ (10304, 256) ∷ (13024, 32) ∷ (13184, 32)
@@ -33,13 +34,13 @@ pub fn three_openings_of_forty_one()
         ∷ (8000, 256) ∷ (11520, 32) ∷ (12320, 32) ∷ (12736, 32) ∷ (12960, 32) ∷ (13088, 32) ∷ (13216, 32) ∷ [] }
 {}
 
-/// Whether two lists of named strings clash is decided by a test over them.
+/// Two lists of named strings clash exactly where a test over the lists says so.
 pub fn a_clash_is_found_by_its_test()
     ensures { (hash : List ℕ → List ℕ) (ours theirs : List (StringName × List ℕ))
         → has_clash hash ours theirs ≡ true ↔ IsClash hash ours theirs }
 {}
 
-/// The reads of an opener begin with its start: what a store served before doesn't count, and what comes behind is added.
+/// The reads of an opener begin with its first read of a header: earlier reads don't count, and later ones are added.
 pub fn reads_of_an_opener_begin_with_its_start()
     ensures start { (before : List StoreRead) (first : StoreRead) (more : List StoreRead)
         → is_start first ≡ true → list_any is_start more ≡ false
@@ -48,23 +49,23 @@ pub fn reads_of_an_opener_begin_with_its_start()
         → since (before ++ more) ≡ since before ++ more }
 {}
 
-/// Good reads under the root of a document's file served its header, and the newest opening read its own fragment; or some name
-/// has one string in what the reads hash and another in the file, with one digest.
+/// Good reads under the root of a document's file served its header, and the newest opening read the file's fragment,
+/// unless there is a clash. Then some name has one string in what the reads hash and another one in the file, with one
+/// digest.
 pub fn good_reads_are_of_the_file_or_clash()
     ensures header { (d : Doc) (key root : List ℕ) (h : Header) (top : List ℕ)
         (reads : List StoreRead)
-        → is_document d ≡ true → AreBytes 16 key → HasRoot d key root → AreChecked root h top reads
+        → is_document d ≡ true → AreBytes 16 key → HasRoot d key root → AreVerifiedUnder root h top reads
         → reads_clash reads d key ≡ false → h ≡ document_header d key }
     ensures fragment { (d : Doc) (key root : List ℕ) (h : Header) (top : List ℕ)
         (reads : List StoreRead)
         (newest : Opening) (before : List Opening)
-        → is_document d ≡ true → AreBytes 16 key → HasRoot d key root → AreChecked root h top reads
+        → is_document d ≡ true → AreBytes 16 key → HasRoot d key root → AreVerifiedUnder root h top reads
         → openings reads ≡ newest ∷ before → reads_clash reads d key ≡ false
         → newest.leaf.bytes ≡ slice_index_or (cipher_fragments d key) (index_of newest) [] }
 {}
 
-/// Regular reads of a store that holds a document's file, each of which gave the file's bytes from its place on, give no clash with
-/// that document.
+/// Regular reads that each gave the bytes of a document's file from their offset on give no clash with that document.
 pub fn a_store_that_holds_the_file_gives_no_clash()
     ensures { (d : Doc) (key : List ℕ) (reads : List StoreRead)
         → is_document d ≡ true → has_stream d ≡ true → AreBytes 16 key

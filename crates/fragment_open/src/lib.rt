@@ -1,4 +1,5 @@
-//! Reads fragments of a file from a store that nobody trusts.
+//! Reads fragments of a file from an untrusted store. Each fragment is checked against a root digest and then
+//! deciphered.
 #![tactic(auto)]
 
 mod climb;

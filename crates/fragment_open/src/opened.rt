@@ -1,10 +1,10 @@
-//! One opening of a fragment: its cipher bytes, and what they fold to.
+//! One opening of a fragment: its enciphered bytes, and the digests that they are hashed to.
 ghost use Rattle.std.specs.Prelude.{◌≡◌, ◌<◌, ◌≤◌, length, ℕ, List, IsErrOf, MatchResult, OnOk, IfErr};
 ghost use Rattle.acl_model.specs.declared.document.Doc.{Doc};
 ghost use Rattle.acl_outside.specs.Outside.{NotFallen, Rose};
 ghost use Rattle.merkle_chunks.specs.Table.{top_level};
-ghost use Rattle.fragment_open.specs.Told.{Told};
-ghost use Rattle.fragment_open.specs.Climbing.{IsNotOpened, IsOpened};
+ghost use Rattle.fragment_open.specs.CallReads.{Told};
+ghost use Rattle.fragment_open.specs.inside.Climbing.{IsNotOpened, IsOpened};
 ghost use Rattle.fragment_open.specs.Held.{HoldsFile, IsOpenedHeld, IsQuietElse, IsStoreFault};
 
 use crate::climb::{Climb, climb_to};
@@ -16,11 +16,11 @@ use merkle_chunks::leaf_digest;
 /// The level of a chunk's digest.
 pub(crate) const CHUNK_LEVEL: u32 = 4;
 
-/// What an opening gave.
+/// What an opening gave once it reached its goal.
 #[derive(Clone, Copy)]
 pub(crate) struct Opened {
     pub cipher: [u8; 256],
-    /// The digest of the chunk. Where the goal is below its level, it is that at the goal.
+    /// The digest of the chunk, or the digest at the goal where that is below the chunk's level.
     pub chunk: [u8; 32],
     /// The digest at the goal.
     pub digest: [u8; 32],

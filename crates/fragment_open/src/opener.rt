@@ -1,5 +1,5 @@
-//! Opens the fragments of a file in a store that nobody trusts: a fragment is read, folded with its siblings up to a digest that is
-//! known, and only then unlocked.
+//! Opens the fragments of a file in an untrusted store. A fragment is read and hashed with its siblings up to a known
+//! digest, and deciphered only where the digests are equal.
 ghost use Rattle.std.specs.Prelude.{◌≡◌, ◌/◌, ◌<◌, ℕ, List, [], false, Option, None, Some, Err, IfOk, IfSome, OnErr, IsErrOf, MatchResult, if◌then◌else◌, slice_index_or, OnOk, IfErr};
 ghost use Rattle.std.specs.List.{list_any};
 ghost use Rattle.acl_model.specs.Stream.{plain};
@@ -8,12 +8,12 @@ ghost use Rattle.acl_outside.specs.Outside.{NotFallen, Rose};
 ghost use Rattle.merkle_chunks.specs.HeaderBytes.{fragment_count};
 ghost use Rattle.merkle_chunks.specs.File.{file_root};
 ghost use Rattle.merkle_chunks.specs.Table.{fragments};
-ghost use Rattle.fragment_open.specs.Checked.{AreOpeningsChecked, is_bad_fragment};
-ghost use Rattle.fragment_open.specs.Told.{Told};
+ghost use Rattle.fragment_open.specs.Checked.{AllFoldUnlessRefused, is_bad_fragment};
+ghost use Rattle.fragment_open.specs.CallReads.{Told};
 ghost use Rattle.fragment_open.specs.Held.{IsQuietElse, IsStoreFault};
 ghost use Rattle.fragment_open.specs.Starting.{HoldsDocument, IsHeadOf, IsStarted, IsUnder};
-ghost use Rattle.fragment_open.specs.Settled.{AddsPlain, AreHeld, FetchEnds, IsQuietIfHeld, Opens, OpensNone, Settled, goes_to_chunk, is_start, root_by, since, want_by};
-ghost use Rattle.fragment_open.specs.SettledProps.{AreHeld-prop, IsQuietIfHeld-prop, Settled-prop};
+ghost use Rattle.fragment_open.specs.Settled.{AddsPlain, AreHeld, FetchEnds, IsQuietIfHeld, Opens, CompletesNone, Settled, goes_to_chunk, is_start, root_by, since, want_by};
+ghost use Rattle.fragment_open.specs.inside.SettledProps.{AreHeld-prop, IsQuietIfHeld-prop, Settled-prop};
 
 use crate::head::{Head, begin};
 use crate::kept::Kept;
@@ -23,20 +23,20 @@ use acl_outside::{ReadFault, Store};
 use merkle_chunks::Header;
 use position_cipher::unlock_fragment;
 
-/// The fragments of a chunk.
+/// The number of fragments of a chunk.
 const CHUNK: u32 = 16;
 
-/// The most levels of nodes that a table has.
+/// The most levels that a table has above its leaves.
 const LEVELS: usize = 17;
 
-/// Where an opening goes up to, and the digest that is wanted there.
+/// The level up to which an opening is hashed, and the digest that is wanted there.
 #[derive(Clone, Copy)]
 struct Aim {
     goal: u32,
     want: [u8; 32],
 }
 
-/// The aim of an opening, by what is kept of the one before.
+/// The aim of an opening, given what is kept of the one before.
 fn aim_of(top_level: u32, top: [u8; 32], kept: Option<Kept>, index: u32) -> Aim
     ensures goal { result.goal ≡ (if goes_to_chunk top_level index kept then 4 else top_level) }
     ensures want { result.want ≡ want_by top_level index kept top }
@@ -56,15 +56,15 @@ fn aim_of(top_level: u32, top: [u8; 32], kept: Option<Kept>, index: u32) -> Aim
     }
 }
 
-/// An opener over a store that it holds alone.
+/// An opener over a store that it borrows exclusively.
 #[derive(Drop)]
 pub struct Opener<'a, S: Store> {
     store: &'a mut S,
     head: Head,
     kept: Option<Kept>,
-    // The nodes hashed last, by their level less one.
+    // The nodes hashed last; that of level `l + 1` is at index `l`.
     lasts: [Last; LEVELS],
-    // The refusal, from which on nothing is read.
+    // The refusal, where there was one. After it nothing is read.
     fault: Option<ReadFault>,
     ghost settled: { Settled (S.served store.now) head.header head.top kept fault } by { Settled-prop (S.served store.now) head.header head.top kept fault },
     ghost held: { AreHeld (S.holds store.now) head.header head.top head.key kept } by { AreHeld-prop (S.holds store.now) head.header head.top head.key kept },
@@ -92,8 +92,8 @@ impl<'a, S: Store> Opener<'a, S> {
         }
     }
 
-    /// Starts on a store and makes its opener, as [`begin`] and [`over`](Opener::over) do. What a refusal says of the store,
-    /// its causes and its counts, is said by `begin`: where that matters, call these two.
+    /// Starts on a store and makes its opener, as [`begin`] and [`over`](Opener::over) do. The contract says little
+    /// about refusals. Where their causes or the store's count of faults matter, call these two instead.
     pub fn start(
         store: &'a mut S,
         root: [u8; 32],
@@ -124,8 +124,9 @@ impl<'a, S: Store> Opener<'a, S> {
     {
         self.head.header()
     }
-    /// Opens the fragment of an index, from 0, and gives its plain bytes. The refusals are `StoreFault`, `StoreShort` and
-    /// `BadFragment`. After one `into` is as it was, and each later call answers so again and asks the store for nothing.
+    /// Opens the fragment at an index (from 0) and writes its plain bytes to `into`. The refusals are `StoreFault`,
+    /// `StoreShort` and `BadFragment`. A refusal leaves `into` as it was. Each later call returns the same refusal and
+    /// doesn't read the store.
     pub fn fetch(&mut self, index: u32, into: &mut [u8; 256]) -> Result<(), ReadFault>
         requires { index < fragment_count self.old.head.header }
         ensures same_store { self.new.store.ghost_name ≡ self.old.store.ghost_name }
@@ -135,11 +136,11 @@ impl<'a, S: Store> Opener<'a, S> {
         ensures opens { self.old.fault ≡ None
             → Opens result index (S.served self.old.store.now) (S.served self.new.store.now) }
         ensures checked { self.old.fault ≡ None → IfSome (S.served self.new.store.now) (λ all.
-            AreOpeningsChecked (is_bad_fragment result) (since all)) }
+            AllFoldUnlessRefused (is_bad_fragment result) (since all)) }
         ensures plain { self.old.fault ≡ None → AddsPlain result self.old.head.key into.new
             (S.served self.old.store.now) (S.served self.new.store.now) }
         ensures unopened { self.old.fault ≡ None → IsErrOf result ReadFault.StoreFault
-            → OpensNone (S.served self.old.store.now) (S.served self.new.store.now) }
+            → CompletesNone (S.served self.old.store.now) (S.served self.new.store.now) }
         ensures grown { Told (S.served self.old.store.now) (S.served self.new.store.now) (λ more.
             list_any is_start more ≡ false) }
         ensures held { (d : Doc) → HoldsDocument (S.holds self.old.store.now) d self.old.head.key
@@ -169,7 +170,7 @@ impl<'a, S: Store> Opener<'a, S> {
         }
     }
 
-    /// Opens the fragment of an index, from 0, where nothing was refused before.
+    /// Opens the fragment at an index (from 0), where nothing was refused before.
     fn open_next(&mut self, index: u32, into: &mut [u8; 256]) -> Result<(), ReadFault>
         requires quiet { self.old.fault ≡ None }
         requires within { index < fragment_count self.old.head.header }
@@ -180,11 +181,11 @@ impl<'a, S: Store> Opener<'a, S> {
         ensures opens { Opens result index (S.served self.old.store.now)
             (S.served self.new.store.now) }
         ensures checked { IfSome (S.served self.new.store.now) (λ all.
-            AreOpeningsChecked (is_bad_fragment result) (since all)) }
+            AllFoldUnlessRefused (is_bad_fragment result) (since all)) }
         ensures plain { AddsPlain result self.old.head.key into.new
             (S.served self.old.store.now) (S.served self.new.store.now) }
         ensures unopened { IsErrOf result ReadFault.StoreFault
-            → OpensNone (S.served self.old.store.now) (S.served self.new.store.now) }
+            → CompletesNone (S.served self.old.store.now) (S.served self.new.store.now) }
         ensures grown { Told (S.served self.old.store.now) (S.served self.new.store.now) (λ more.
             list_any is_start more ≡ false) }
         ensures held { (d : Doc) → HoldsDocument (S.holds self.old.store.now) d self.old.head.key
@@ -236,7 +237,7 @@ impl<'a, S: Store> Opener<'a, S> {
         Ok(())
     }
 
-    /// Keeps the digest of a chunk, and goes on.
+    /// Keeps the digest of a chunk, and ends the call without a refusal.
     fn keep(&mut self, chunk: u32, digest: [u8; 32])
         requires settled { Settled
             (S.served self.old.store.now) self.old.head.header self.old.head.top

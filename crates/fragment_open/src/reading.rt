@@ -1,12 +1,12 @@
-//! One read of a store, which has to come whole.
+//! One read of a store that must give all bytes.
 ghost use Rattle.std.specs.Prelude.{◌≡◌, ◌+◌, ◌^◌, ◌<◌, IfSome, IsErrOf, length, OnOk, IfErr};
 ghost use Rattle.acl_outside.specs.Outside.{NotFallen, Rose};
 ghost use Rattle.fragment_open.specs.Held.{IsQuietElse};
-ghost use Rattle.fragment_open.specs.Told.{GivesWhole, ReadsWhole, Told};
+ghost use Rattle.fragment_open.specs.CallReads.{GivesWhole, ReadsWhole, Told};
 
 use acl_outside::{ReadFault, Store};
 
-/// Fills `into` with the store's bytes from the place `at` on.
+/// Fills `into` with the store's bytes from offset `at` on.
 pub(crate) fn read_whole<S: Store>(store: &mut S, at: u64, into: &mut [u8]) -> Result<(), ReadFault>
     requires { at + length into.old < 2 ^ 64 }
     ensures told { Told (S.served store.old) (S.served store.new) (ReadsWhole result at into.new) }

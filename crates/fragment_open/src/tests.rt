@@ -1,5 +1,5 @@
-//! The worked file of 41 fragments, fragment `i` of 256 bytes `i`, and stores that cut it, change it or fail. Digests are those of
-//! the module `hashlib` of Python 3.11, over fragments that OpenSSL enciphered.
+//! Tests with a file of 41 fragments, fragment `i` being 256 bytes `i`, and with stores that cut it, change it or fail.
+//! The expected digests are those of the module `hashlib` of Python 3.11, over fragments that OpenSSL enciphered.
 ghost use Rattle.std.specs.Prelude.{◌≡◌, ◌<◌, length, IfOk};
 
 use crate::Opener;
@@ -13,25 +13,25 @@ use std::test::Fail;
 
 const KEY: [u8; 16] = [0, 1, 2, 3, 4, 5, 6, 7, 8, 9, 10, 11, 12, 13, 14, 15];
 
-/// The root of the worked file.
+/// The root of the test file.
 const ROOT: [u8; 32] = [
     0x2b, 0x1d, 0xad, 0x43, 0x62, 0xc5, 0xb8, 0x31, 0x05, 0x65, 0x7d, 0xa8, 0xf7, 0xce, 0xa7, 0x2b,
     0x32, 0x57, 0x7e, 0x54, 0xd1, 0x07, 0xa0, 0x26, 0x6b, 0xbe, 0x26, 0x5c, 0xf7, 0xc9, 0x3c, 0x01,
 ];
 
-/// The digest of its chunk 2, which has the fragments from 32 on.
+/// The digest of chunk 2 of the test file, which has the fragments from 32 on.
 const CHUNK_2: [u8; 32] = [
     0x57, 0xd5, 0x4f, 0x61, 0xbe, 0x57, 0x3a, 0x4c, 0x28, 0x65, 0x56, 0xdc, 0xec, 0xd0, 0xe9, 0x01,
     0x46, 0x4b, 0xa5, 0xc4, 0xeb, 0xe7, 0xe7, 0xcc, 0x35, 0x59, 0x0c, 0x11, 0x7e, 0x9e, 0xef, 0x9a,
 ];
 
-/// That digest where the byte 9,285 of the file is another.
+/// The digest of chunk 2 where byte 9,285 of the file is changed.
 const CHANGED_CHUNK_2: [u8; 32] = [
     0xa7, 0x0d, 0xca, 0x14, 0xa6, 0xc8, 0x6d, 0x5e, 0xb3, 0x1c, 0x68, 0x18, 0x37, 0xc1, 0x31, 0x54,
     0x46, 0x85, 0xe5, 0xf0, 0xb5, 0xf1, 0x6d, 0xf0, 0x54, 0xff, 0x18, 0x7e, 0x0d, 0x0a, 0x22, 0xea,
 ];
 
-/// The worked file: 13,280 bytes.
+/// The test file: 13,280 bytes.
 fn worked_file(alloc: Global) -> Result<Vec<u8>, AllocError>
     ensures { IfOk result (λ bytes. length bytes.items ≡ 13280) }
 {
@@ -77,7 +77,7 @@ impl Counted {
 }
 
 impl Store for Counted {
-    ghost use Rattle.acl_outside.specs.Adapters.{unknown_bytes, unknown_reads};
+    ghost use Rattle.acl_outside.specs.inside.Adapters.{unknown_bytes, unknown_reads};
 
     ghost holds = { λ _. unknown_bytes };
 
@@ -96,8 +96,8 @@ impl Store for Counted {
     }
 }
 
-/// Opens a fragment, and compares the answer, and the bytes where it is good: each is the fragment's index. After a refusal they
-/// are those of before.
+/// Opens a fragment and compares the answer. After Ok each byte is the fragment's index; after a refusal the bytes are
+/// as before.
 fn expect_fragment(
     rt: &impl Abort,
     opener: &mut Opener<'_, Counted>,
@@ -112,7 +112,7 @@ fn expect_fragment(
     assert_eq!(rt; u32::from(bytes[255]), byte, "fragment {index}");
 }
 
-// Two reads start, and the three openings take 3, 5 and 7 more.
+// A start takes two reads, and the three openings take 3, 5 and 7 more.
 #[test]
 fn an_honest_store_gives_each_fragment(rt: HostRuntime) -> Result<(), Fail> {
     let mut store = Counted::new(worked_file(rt.alloc())?, u64::MAX);
@@ -148,7 +148,7 @@ fn a_changed_fragment_is_refused_and_the_refusal_stays(rt: HostRuntime) -> Resul
     Ok(())
 }
 
-/// The refusal of a start on a file of the first `length` bytes, with one byte changed.
+/// The refusal of a start on the first `length` bytes of the test file, with one byte changed.
 fn start_refusal(
     rt: &HostRuntime,
     length: usize,
@@ -203,7 +203,7 @@ fn a_start_is_refused_by_its_first_cause(rt: HostRuntime) -> Result<(), Fail> {
             Some(ReadFault::StoreShort { at: 13_248 }),
         ),
         (
-            "a byte behind the check",
+            "a byte after the check",
             13_280,
             40,
             never,

@@ -7,7 +7,7 @@ use Rattle.std.proofs.lemmas.Bool.Decides.{nat_tests}
 use Rattle.sha2.specs.Sha256.{sha256}
 use Rattle.hmac_tag.specs.Hmac.{block_key, exclusive_or, hmac, zero_filled_bytes}
 
--- the exclusive or with one byte over and over is that of each byte with it
+-- the exclusive or with a repeated byte is that of each byte with this byte
 exclusive_or-repeated : (xs : List ℕ) (b : ℕ) → exclusive_or xs (replicate (length xs) b) ≡ map (λ x. bit_xor x b) xs
 exclusive_or-repeated [] b = refl
 exclusive_or-repeated (x ∷ xs) b = ap (λ ys. bit_xor x b ∷ ys) (exclusive_or-repeated xs b)
@@ -26,7 +26,7 @@ exclusive_or-more xs ys i b n h e =
     let inside : i < length ys = omega arith in
     map_over_more (λ x. bit_xor x b) xs ys i (get_or ys i 0) within e (get_or_default ys i 0 (get_or ys i 0) inside)
 
--- what a loop over all the bytes has made
+-- the result of a loop over all bytes
 pub exclusive_or-whole : (xs ys : List ℕ) (i b : ℕ) → length xs ≡ 64 → 64 ≤ i
     → ys ≡ map (λ x. bit_xor x b) (take i xs) ++ drop i xs → ys ≡ exclusive_or xs (replicate 64 b)
 exclusive_or-whole xs ys i b n h e =
@@ -35,12 +35,12 @@ exclusive_or-whole xs ys i b n h e =
     let over : exclusive_or xs (replicate 64 b) ≡ map (λ x. bit_xor x b) xs = exclusive_or-replicate xs 64 b n in
     grind (arith, common_steps)
 
--- a key of one block at most is filled with zeros, and with none if it is a block long
+-- a key of at most one block is padded with zeros; a key of exactly one block gets none
 pub block_key-short : (key : List ℕ) → length key ≤ 64 → block_key key ≡ zero_filled_bytes key
 unfolding block_key
 block_key-short key h = grind (arith, nat_tests, common_steps)
 
--- a longer key gives way to its digest
+-- a longer key is replaced by its digest
 pub block_key-long : (key : List ℕ) → 64 < length key → block_key key ≡ zero_filled_bytes (sha256 key)
 unfolding block_key
 block_key-long key h = grind (arith, nat_tests, common_steps)

@@ -1,5 +1,6 @@
-//! HMAC with SHA-256 (FIPS 198-1): the digest of the outer pad and of the digest of the inner pad
-//! and the message, each pad being the key's block with one byte over it.
+//! HMAC with SHA-256 (FIPS 198-1). The inner digest is that of the key's block, combined with the inner pad, and the
+//! message. The tag is the digest of the key's block, combined with the outer pad, and the inner digest. Pads are
+//! combined by exclusive or.
 #![tactic(auto)]
 
 ghost use Rattle.std.specs.Prelude.{◌≡◌, ◌≤◌, length, replicate, ◌++◌};
@@ -11,7 +12,7 @@ use sha2::{Digest, Sha256};
 #[cfg(test)]
 mod tests;
 
-/// The bytes of a block of SHA-256, B of the standard.
+/// The length of a block of SHA-256 in bytes; B in the standard.
 const BLOCK_LEN: usize = 64;
 
 /// The byte that the inner pad repeats.
@@ -22,7 +23,7 @@ const OUTER_BYTE: u8 = 0x5C;
 
 /// The tag of `message` under `key`: 32 bytes, for a key and a message of any length.
 ///
-/// The message is hashed where it lies, after the inner pad, so nothing of it is copied.
+/// The message is not copied.
 pub fn hmac(key: &[u8], message: &[u8]) -> [u8; 32]
     ensures { result ≡ hmac key.now message.now }
 {
@@ -31,7 +32,7 @@ pub fn hmac(key: &[u8], message: &[u8]) -> [u8; 32]
     digest_after(&padded_block(&block, OUTER_BYTE), &inner_digest)
 }
 
-/// The key's block: the key, or where it is longer than a block its digest, with zeros after it.
+/// The key's block: the key, or the digest of a key that is longer than a block, padded with zeros.
 #[tactic(auto, using(crate::proofs::Pads::block_keys))]
 fn block_of_key(key: &[u8]) -> [u8; 64]
     ensures { result ≡ block_key key.now }
@@ -43,7 +44,7 @@ fn block_of_key(key: &[u8]) -> [u8; 64]
     }
 }
 
-/// `bytes`, with zeros after them up to a block.
+/// `bytes`, padded with zeros to a block.
 fn zero_filled_block(bytes: &[u8]) -> [u8; 64]
     requires { length bytes.now ≤ 64 }
     ensures { result ≡ zero_filled_bytes bytes.now }
@@ -53,7 +54,7 @@ fn zero_filled_block(bytes: &[u8]) -> [u8; 64]
     block
 }
 
-/// The block with `pad` over each byte.
+/// The block, each byte combined with `pad` by exclusive or.
 fn padded_block(block: &[u8; 64], pad: u8) -> [u8; 64]
     ensures { result ≡ exclusive_or block.now (replicate 64 pad) }
 {
@@ -64,7 +65,7 @@ fn padded_block(block: &[u8; 64], pad: u8) -> [u8; 64]
     padded
 }
 
-/// The digest of a block and what follows it, as one message.
+/// The digest of the block followed by `rest`.
 fn digest_after(block: &[u8; 64], rest: &[u8]) -> [u8; 32]
     ensures { result ≡ sha256 (block.now ++ rest.now) }
 {

@@ -1,7 +1,7 @@
 use super::hmac;
 use std::process::Abort;
 
-/// A key or a message of `length` bytes: byte `i` is `(i * step + first) % 256`.
+/// Fills a key or a message: byte `i` is `(i * step + first) % 256`.
 fn pattern(bytes: &mut [u8], first: u8, step: u8) {
     let mut byte = first;
     for place in bytes.iter_mut() {
@@ -10,7 +10,7 @@ fn pattern(bytes: &mut [u8], first: u8, step: u8) {
     }
 }
 
-/// Whether the tag is the one that the hexadecimal digits `want` spell.
+/// Checks that the tag, in hexadecimal, is `want`.
 fn expect_tag(rt: &impl Abort, key: &[u8], message: &[u8], want: &str) {
     let tag = hmac(key, message);
     let mut digits = [0u8; 64];
@@ -36,7 +36,7 @@ fn the_standard_text_has_its_tag(rt: HostRuntime) {
     );
 }
 
-// The tags are those of the module `hmac` of Python 3.11, of the keys and messages of `pattern`.
+// The tags were computed by the module `hmac` of Python 3.11, for the keys and messages of `pattern`.
 #[test]
 fn keys_and_messages_around_a_block_have_the_tags_of_python(rt: HostRuntime) {
     let mut key = [0u8; 131];

@@ -1,4 +1,4 @@
--- What it shows that a line was read by its form, and what it shows that it was not.
+-- What follows where a line was read by its form, and where it was not.
 use Rattle.std.proofs.Common.{◌≡◌, ℕ, ◌⊎◌, inl, inr, List, [], ◌∷◌, ◌++◌, length, take, drop, nat_eq, Bool, true, false, ◌&&◌, cond, Option, Some, None, Result, Ok, Err, ok_or, refl, ap, sym, subst, ◌∙◌, arith}
 use Rattle.std.specs.Option.{option_map, option_and_then, unwrap_or}
 use Rattle.std.specs.Result.{result_ok, result_err}
@@ -7,11 +7,11 @@ use Rattle.std.proofs.lemmas.Bool.{eq-eqb}
 use Rattle.std.proofs.lemmas.List.{take-append-drop}
 use Rattle.std.proofs.lemmas.Option.{none-some, option_and_then_some, cond_some}
 use Rattle.hex.specs.Hex.{decode_sized}
-use Rattle.licence.specs.Forms.{Lines, HasDigits, NoneFirst, ◌>>=◌, text_behind, bytes_behind, line_of_form}
+use Rattle.licence.specs.Forms.{Lines, HasDigits, NoneFirst, ◌>>=◌, text_after, bytes_after, line_of_form}
 
 -- ---- what an answer shows
 
--- Equal values stand in equal answers.
+-- Equal answers have equal values.
 pub same_within : {A : Type 0} (x y : A) → Some x ≡ Some y → x ≡ y
 same_within x y h = ap (λ o. unwrap_or o x) h
 
@@ -67,27 +67,27 @@ pub pointwise-self : (xs : List ℕ) → pointwise nat_eq xs xs ≡ true
 pointwise-self [] = refl
 pointwise-self (x ∷ xs) = both_true (nat_eq x x) (pointwise nat_eq xs xs) (eq-eqb x x refl) (pointwise-self xs)
 
--- ---- a word and what stands behind it
+-- ---- a keyword and what follows it
 
-pub text_behind-some : (word bytes rest : List ℕ) → text_behind word bytes ≡ Some rest → bytes ≡ word ++ rest
-text_behind-some word bytes rest h =
+pub text_after-some : (word bytes rest : List ℕ) → text_after word bytes ≡ Some rest → bytes ≡ word ++ rest
+text_after-some word bytes rest h =
     let found = cond_some (pointwise nat_eq (take (length word) bytes) word) (drop (length word) bytes) rest h in
     sym (take-append-drop (length word) bytes)
-    ∙ ap (λ (front : List ℕ). front ++ drop (length word) bytes) (pointwise-same (take (length word) bytes) word found.0)
+    ∙ ap (λ (prefix : List ℕ). prefix ++ drop (length word) bytes) (pointwise-same (take (length word) bytes) word found.0)
     ∙ ap (λ (back : List ℕ). word ++ back) found.1
 
--- What was read behind a word has its digits there.
-pub bytes_behind-some : (word : List ℕ) (count : ℕ) (line bytes : List ℕ) → bytes_behind word count line ≡ Some bytes → HasDigits word count line bytes
-bytes_behind-some word count line bytes h =
-    option_and_then_some (λ digits. result_ok (decode_sized digits count)) (text_behind word line) bytes h
-    (λ digits behind decoded. (digits, text_behind-some word line digits behind, result_ok-some (decode_sized digits count) bytes decoded))
+-- Bytes that were read after a keyword have their digits there.
+pub bytes_after-some : (word : List ℕ) (count : ℕ) (line bytes : List ℕ) → bytes_after word count line ≡ Some bytes → HasDigits word count line bytes
+bytes_after-some word count line bytes h =
+    option_and_then_some (λ digits. result_ok (decode_sized digits count)) (text_after word line) bytes h
+    (λ digits after decoded. (digits, text_after-some word line digits after, result_ok-some (decode_sized digits count) bytes decoded))
 
--- The bytes of the digits behind a word are read.
-pub bytes_behind-digits : (word : List ℕ) → ((rest : List ℕ) → text_behind word (word ++ rest) ≡ Some rest) → (count : ℕ) (line bytes : List ℕ)
-    → HasDigits word count line bytes → bytes_behind word count line ≡ Some bytes
-bytes_behind-digits word behind count line bytes has =
-    ap (λ (l : List ℕ). bytes_behind word count l) has.1
-    ∙ ap (λ o. option_and_then (λ digits. result_ok (decode_sized digits count)) o) (behind has.0) ∙ ap result_ok has.2
+-- The bytes whose digits follow a keyword are read.
+pub bytes_after-digits : (word : List ℕ) → ((rest : List ℕ) → text_after word (word ++ rest) ≡ Some rest) → (count : ℕ) (line bytes : List ℕ)
+    → HasDigits word count line bytes → bytes_after word count line ≡ Some bytes
+bytes_after-digits word after count line bytes has =
+    ap (λ (l : List ℕ). bytes_after word count l) has.1
+    ∙ ap (λ o. option_and_then (λ digits. result_ok (decode_sized digits count)) o) (after has.0) ∙ ap result_ok has.2
 
 -- ---- the first of some lines
 
@@ -123,7 +123,7 @@ line_of_form-err {A} {E} fault form Form takes (line ∷ rest) other h =
       | Some a ↦ λ e is. absurd (not_both {A = A × Lines} (a, rest) other is)
     ] refl h
 
--- Where none stands first, none is read.
+-- Where the first line is not of the form, none is read.
 pub line_of_form-none : {A E : Type 0} (fault : E) (form : List ℕ → Option A) (Form : List ℕ → Type 0) → ((line : List ℕ) (a : A) → form line ≡ Some a → Form line)
     → (ls : Lines) → NoneFirst Form ls → line_of_form fault form ls ≡ Err fault
 line_of_form-none fault form Form shows [] none = refl

@@ -2,8 +2,8 @@
 use Rattle.std.proofs.Common.{◌≡◌, ℕ, List, Err}
 use Rattle.acl_model.specs.Lines.{lines}
 use Rattle.licence.specs.Forms.{Lines}
-use Rattle.licence.specs.Refusals.{IsRefused}
-use Rattle.licence.specs.Refusals.IsRefused.{NoTitle, NoRoot, NoUser, Behind}
+use Rattle.licence.specs.BodyRefusals.{IsRefused}
+use Rattle.licence.specs.BodyRefusals.IsRefused.{NoTitle, NoRoot, NoUser, After}
 use Rattle.licence.specs.Body.{read_body_of}
 use Rattle.licence.specs.Sealed.{IsRefusedSealed, read_licence_of, sealed_text_of}
 use Rattle.licence.specs.Sealed.IsRefusedSealed.{NoSeal, OtherSeal, BadBody}
@@ -19,13 +19,13 @@ seal_no_cause : (n : ℕ) (ls : Lines) (given made : List ℕ) → IsRefused n l
 seal_no_cause n ls given made (NoTitle is none) = cc
 seal_no_cause n ls given made (NoRoot rest is text none) = cc
 seal_no_cause n ls given made (NoUser line rest is text root none) = cc
-seal_no_cause n ls given made (Behind root user rules rest begins cause) = cause
+seal_no_cause n ls given made (After root user rules rest begins cause) = cause
 
 memory_no_cause : (n : ℕ) (ls : Lines) → IsRefused n ls NoMemory → ⊥
 memory_no_cause n ls (NoTitle is none) = cc
 memory_no_cause n ls (NoRoot rest is text none) = cc
 memory_no_cause n ls (NoUser line rest is text root none) = cc
-memory_no_cause n ls (Behind root user rules rest begins cause) = cause
+memory_no_cause n ls (After root user rules rest begins cause) = cause
 
 memory_no_sealed_cause : (key bytes : List ℕ) → IsRefusedSealed key bytes NoMemory → ⊥
 memory_no_sealed_cause key bytes (NoSeal is none) = cc

@@ -1,4 +1,4 @@
--- One rule line: how it is taken apart, and what it shows that it was read or refused.
+-- One rule line: its parts, and what follows from the answer that it was read or refused.
 use Rattle.std.proofs.Common.{◌≡◌, ℕ, ◌<◌, ◌≤◌, inl, List, [], ◌∷◌, ◌++◌, length, nat_eq, nat_le, nat_lt, true, false, ◌&&◌, ◌||◌, cond, Option, Some, None, Result, Ok, Err, ok_or, refl, ap, sym, subst, ◌∙◌, arith}
 use Rattle.std.specs.List.{list_all}
 use Rattle.std.specs.Option.{option_map}
@@ -14,11 +14,11 @@ use Rattle.acl_model.specs.declared.rule.Rule.{Rule}
 use Rattle.acl_model.specs.declared.rule.Sign.{Sign}
 use Rattle.acl_model.specs.declared.rule.Sign.TheVariants.{Grant, Deny}
 use Rattle.acl_model.proofs.LineLaws.{cut_at-append, lacks-list_all}
-use Rattle.xpath_rules.specs.Machine.{read_path_of}
+use Rattle.xpath_rules.specs.PathMachine.{read_path_of}
 use Rattle.xpath_rules.proofs.Places.{spelled_read, read_within, read_spelled}
 use Rattle.licence.specs.Forms.{Lines, ◌>>=◌}
 use Rattle.licence.specs.BodyText.{sign_byte, rule_text, is_id_byte, is_id, is_known_id, WrittenRule, line_of_rule, IsRuleLine}
-use Rattle.licence.specs.Refusals.{IsLastLine, IsRuleBut, IsNextRule, IsOneTooMany, begins_rule, IsRefusedBehind}
+use Rattle.licence.specs.BodyRefusals.{IsLastLine, IsRuleBut, IsNextRule, IsOneTooMany, begins_rule, IsRefusedAfter}
 use Rattle.licence.specs.Body.{sign_of, RuleParts, parts_with_id, rule_line, rule_or_fault, rule_of_parts, rule_too_many, next_rule, is_end}
 use Rattle.licence.specs.declared.fault.LicenceFault.{LicenceFault}
 use Rattle.licence.specs.declared.fault.LicenceFault.TheVariants.{BadRule, BadLicence, TooManyRules}
@@ -37,7 +37,7 @@ sign_of-some b sign h =
       | false ↦ λ other is. let found = cond_some (nat_eq b hyphen) Deny sign is in eqb-true b hyphen found.0 ∙ ap sign_byte found.1
     ] refl h
 
--- What is cut at a byte is what stands before and behind it.
+-- A cut at a byte gives what comes before and after it.
 pub cut_at-some : (c : ℕ) (bytes part rest : List ℕ) → cut_at c bytes ≡ Some (part, rest) → bytes ≡ part ++ (c ∷ rest)
 cut_at-some c [] part rest h = absurd (none-some (part, rest) h)
 cut_at-some c (b ∷ bytes) part rest h =
@@ -90,7 +90,7 @@ is_end-rule Deny bytes = refl
 pub is_end-rule_text : (line : List ℕ) (sign : Sign) (id path : List ℕ) → line ≡ rule_text sign id path → is_end line ≡ false
 is_end-rule_text line sign id path text = ap is_end text ∙ is_end-rule sign (space ∷ (id ++ (space ∷ path)))
 
--- A line that begins as a rule's is not `end`.
+-- A line that begins as that of a rule is not `end`.
 pub is_end-begins_rule : (line : List ℕ) → begins_rule line ≡ true → is_end line ≡ false
 is_end-begins_rule [] begins = absurd (true≢false (sym begins))
 is_end-begins_rule (b ∷ bytes) begins =
@@ -113,7 +113,7 @@ rule_or_fault-ok n parts (Err at) rule h = absurd (not_err rule (BadRule n at) h
 abbrev with_path : Rule → List ℕ → WrittenRule
 with_path rule path = record { rule = rule; path = path }
 
--- a rule as its line says it, behind earlier ones
+-- a rule as its line says it, after earlier ones
 pub record IsNext (user : List ℕ) (earlier : List Rule) (line : List ℕ) (rule : Rule) : Type 0 where
   pub room : length earlier < 64
   pub path : List ℕ
@@ -159,9 +159,9 @@ next_rule-ok user n earlier line rule h =
 -- ---- a rule that is refused
 
 full_refused : (user : List ℕ) (n : ℕ) (earlier : List Rule) (line : List ℕ) (ls : Lines) → length earlier ≡ 64 → is_end line ≡ false
-    → IsRefusedBehind user n earlier (line ∷ ls) (rule_too_many n line)
+    → IsRefusedAfter user n earlier (line ∷ ls) (rule_too_many n line)
 full_refused user n earlier line ls full other =
-    elim (begins_rule line) as (λ v. begins_rule line ≡ v → IsRefusedBehind user n earlier (line ∷ ls) (cond v TooManyRules (BadLicence n))) [
+    elim (begins_rule line) as (λ v. begins_rule line ≡ v → IsRefusedAfter user n earlier (line ∷ ls) (cond v TooManyRules (BadLicence n))) [
       | true ↦ λ begins. (line, ls, refl, (full, begins))
       | false ↦ λ begins. inl (
         refl,
@@ -173,9 +173,9 @@ full_refused user n earlier line ls full other =
       )
     ] refl
 
--- A line that is no rule's, or has a known id, is refused.
+-- A line that is not that of a rule, or has a known id, is refused.
 no_line : (user : List ℕ) (n : ℕ) (earlier : List Rule) (line : List ℕ) (ls : Lines) → length earlier < 64 → is_end line ≡ false
-    → ((id path : List ℕ) → IsRuleBut earlier line id path → ⊥) → IsRefusedBehind user n earlier (line ∷ ls) (BadLicence n)
+    → ((id path : List ℕ) → IsRuleBut earlier line id path → ⊥) → IsRefusedAfter user n earlier (line ∷ ls) (BadLicence n)
 no_line user n earlier line ls room other never = inl (
   refl,
   record {
@@ -190,7 +190,7 @@ parts_of : (earlier : List Rule) (line id path : List ℕ) (b : IsRuleBut earlie
 parts_of earlier line id path b = ap rule_line b.text ∙ rule_line-rule_text b.sign id path b.is_right
 
 bad_path : (user : List ℕ) (n : ℕ) (earlier : List Rule) (line : List ℕ) (ls : Lines) (parts : RuleParts) (at : ℕ) → length earlier < 64 → rule_line line ≡ Some parts
-    → is_known_id parts.id earlier ≡ false → read_path_of parts.path user ≡ Err at → IsRefusedBehind user n earlier (line ∷ ls) (BadRule n at)
+    → is_known_id parts.id earlier ≡ false → read_path_of parts.path user ≡ Err at → IsRefusedAfter user n earlier (line ∷ ls) (BadRule n at)
 bad_path user n earlier line ls parts at room form fresh refused =
     let says = rule_line-some line parts form in (
       refl,
@@ -207,33 +207,33 @@ bad_path user n earlier line ls parts at room form fresh refused =
     )
 
 pub next_rule-err : (user : List ℕ) (n : ℕ) (earlier : List Rule) (line : List ℕ) (ls : Lines) (fault : LicenceFault) → length earlier ≤ 64 → is_end line ≡ false
-    → next_rule user n earlier line ≡ Err fault → IsRefusedBehind user n earlier (line ∷ ls) fault
+    → next_rule user n earlier line ≡ Err fault → IsRefusedAfter user n earlier (line ∷ ls) fault
 next_rule-err user n earlier line ls fault few other h =
     elim (nat_le most_rules (length earlier))
-    as (λ v. nat_le most_rules (length earlier) ≡ v → cond v (Err (rule_too_many n line)) (ok_or (rule_line line) (BadLicence n) >>= rule_of_parts user n earlier) ≡ Err fault → IsRefusedBehind user n earlier (line ∷ ls) fault) [
+    as (λ v. nat_le most_rules (length earlier) ≡ v → cond v (Err (rule_too_many n line)) (ok_or (rule_line line) (BadLicence n) >>= rule_of_parts user n earlier) ≡ Err fault → IsRefusedAfter user n earlier (line ∷ ls) fault) [
       | true ↦ λ full is.
           let all : length earlier ≡ 64 = grind (arith, nat_tests) in
-          subst (IsRefusedBehind user n earlier (line ∷ ls)) (same_fault {A = Rule} (rule_too_many n line) fault is) (full_refused user n earlier line ls all other)
+          subst (IsRefusedAfter user n earlier (line ∷ ls)) (same_fault {A = Rule} (rule_too_many n line) fault is) (full_refused user n earlier line ls all other)
       | false ↦ λ room is.
           let free : length earlier < 64 = grind (arith, nat_tests) in
           elim (rule_line line)
-          as (λ o. rule_line line ≡ o → (ok_or o (BadLicence n) >>= rule_of_parts user n earlier) ≡ Err fault → IsRefusedBehind user n earlier (line ∷ ls) fault) [
+          as (λ o. rule_line line ≡ o → (ok_or o (BadLicence n) >>= rule_of_parts user n earlier) ≡ Err fault → IsRefusedAfter user n earlier (line ∷ ls) fault) [
             | None ↦ λ form read.
-                subst (IsRefusedBehind user n earlier (line ∷ ls)) (same_fault {A = Rule} (BadLicence n) fault read)
+                subst (IsRefusedAfter user n earlier (line ∷ ls)) (same_fault {A = Rule} (BadLicence n) fault read)
                 (no_line user n earlier line ls free other (λ id path b. none-some _ (sym form ∙ parts_of earlier line id path b)))
             | Some parts ↦ λ form read.
                 elim (is_known_id parts.id earlier)
-                as (λ v. is_known_id parts.id earlier ≡ v → cond v (Err (BadLicence n)) (rule_or_fault n parts (read_path_of parts.path user)) ≡ Err fault → IsRefusedBehind user n earlier (line ∷ ls) fault) [
+                as (λ v. is_known_id parts.id earlier ≡ v → cond v (Err (BadLicence n)) (rule_or_fault n parts (read_path_of parts.path user)) ≡ Err fault → IsRefusedAfter user n earlier (line ∷ ls) fault) [
                   | true ↦ λ known told.
-                      subst (IsRefusedBehind user n earlier (line ∷ ls)) (same_fault {A = Rule} (BadLicence n) fault told)
+                      subst (IsRefusedAfter user n earlier (line ∷ ls)) (same_fault {A = Rule} (BadLicence n) fault told)
                       (no_line user n earlier line ls free other
                       (λ id path b. true≢false (sym known ∙ ap (λ (p : RuleParts). is_known_id p.id earlier) (same_within _ _ (sym form ∙ parts_of earlier line id path b)) ∙ b.is_new)))
                   | false ↦ λ fresh yes.
                       elim (read_path_of parts.path user)
-                      as (λ r. read_path_of parts.path user ≡ r → rule_or_fault n parts r ≡ Err fault → IsRefusedBehind user n earlier (line ∷ ls) fault) [
+                      as (λ r. read_path_of parts.path user ≡ r → rule_or_fault n parts r ≡ Err fault → IsRefusedAfter user n earlier (line ∷ ls) fault) [
                         | Ok path ↦ λ good made. absurd (not_both (record { id = parts.id; sign = parts.sign; path = path }) fault made)
                         | Err at ↦ λ refused made.
-                            subst (IsRefusedBehind user n earlier (line ∷ ls)) (same_fault {A = Rule} (BadRule n at) fault made)
+                            subst (IsRefusedAfter user n earlier (line ∷ ls)) (same_fault {A = Rule} (BadRule n at) fault made)
                             (bad_path user n earlier line ls parts at free form fresh refused)
                       ] refl yes
                 ] refl read

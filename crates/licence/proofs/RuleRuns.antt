@@ -1,10 +1,10 @@
--- All lines of the rules: what they show that they were read or refused, and how they are read from what they are.
+-- All lines of the rules: what follows from the answer that they were read or refused, and how they are read.
 use Rattle.std.proofs.Common.{◌≡◌, ℕ, ◌+◌, ◌<◌, ◌≤◌, inl, inr, List, [], ◌∷◌, ◌++◌, map, length, true, false, cond, Result, Ok, Err, IsTrue, refl, ap, sym, subst, ◌∙◌, append_assoc, length-append, arith}
 use Rattle.std.proofs.lemmas.List.{append-nil}
 use Rattle.acl_model.specs.declared.rule.Rule.{Rule}
 use Rattle.licence.specs.Forms.{Lines, ◌>>=◌}
 use Rattle.licence.specs.BodyText.{last_line, are_within_limits, WrittenRule, line_of_rule, rule_of_line, AreRuleLines}
-use Rattle.licence.specs.Refusals.{IsNoLine, IsBadPath, HasLineBehindEnd, HasOneTooMany, ArePastLimits, IsRefusedBehind}
+use Rattle.licence.specs.BodyRefusals.{IsNoLine, IsBadPath, HasLineAfterEnd, HasOneTooMany, ArePastLimits, IsRefusedAfter}
 use Rattle.licence.specs.Body.{next_rule, is_end, rules_at_end, rules_from}
 use Rattle.licence.specs.declared.fault.LicenceFault.{LicenceFault}
 use Rattle.licence.specs.declared.fault.LicenceFault.TheVariants.{BadSeal, BadRule, BadLicence, TooManyRules, TooManyStates, NoMemory}
@@ -14,12 +14,12 @@ use Rattle.licence.proofs.Steps.{rules_from-refused, rules_from-next}
 
 -- ---- what an answer shows
 
--- The lines behind some rules end so: by `end` and within the limits, or they are refused.
+-- The lines after some rules end so: by `end` and within the limits, or they are refused.
 abbrev EndsAs : List ℕ → ℕ → List Rule → Lines → Result (List Rule) LicenceFault → Type 0
 EndsAs user n rules rest (Ok all) = (rest ≡ last_line ∷ []) × IsTrue (are_within_limits rules) × (all ≡ rules)
-EndsAs user n rules rest (Err fault) = IsRefusedBehind user n rules rest fault
+EndsAs user n rules rest (Err fault) = IsRefusedAfter user n rules rest fault
 
--- The lines are those of rules behind earlier ones, and what stands behind them ends so.
+-- The lines are those of rules after earlier ones, and the lines after them end so.
 pub record Comes (user : List ℕ) (n : ℕ) (earlier : List Rule) (ls : Lines) (answer : Result (List Rule) LicenceFault) : Type 0 where
   pub written : List WrittenRule
   pub rest : Lines
@@ -41,9 +41,9 @@ here user n earlier ls answer few ends =
       ends = subst (λ (rules : List Rule). EndsAs user (n + 0) rules ls answer) (sym (append-nil earlier)) step;
     }
 
-behind : (user : List ℕ) (n : ℕ) (earlier : List Rule) (line : List ℕ) (ls : Lines) (rule : Rule) (answer : Result (List Rule) LicenceFault) → IsNext user earlier line rule
+after : (user : List ℕ) (n : ℕ) (earlier : List Rule) (line : List ℕ) (ls : Lines) (rule : Rule) (answer : Result (List Rule) LicenceFault) → IsNext user earlier line rule
     → Comes user (n + 1) (earlier ++ rule ∷ []) ls answer → Comes user n earlier (line ∷ ls) answer
-behind user n earlier line ls rule answer next comes =
+after user n earlier line ls rule answer next comes =
     let first : WrittenRule = record { rule = rule; path = next.path } in
     let number : (n + 1) + length comes.written ≡ n + length (first ∷ comes.written) = omega arith in
     let count : length (earlier ++ rule ∷ []) ≡ length earlier + 1 = length-append earlier (rule ∷ []) in
@@ -67,7 +67,7 @@ at_end user n earlier line [] end =
     elim (are_within_limits earlier) as (λ v. are_within_limits earlier ≡ v → EndsAs user n earlier (line ∷ []) (cond v (Ok earlier) (Err TooManyStates)))
     [ true ↦ λ within. (alone, within, refl) | false ↦ λ past. (alone, past) ] refl
 
--- What all lines are, whatever the answer.
+-- What is known of all lines, whatever the answer.
 pub rules_from-comes : (ls : Lines) (user : List ℕ) (n : ℕ) (earlier : List Rule) → length earlier ≤ 64 → Comes user n earlier ls (rules_from user n earlier ls)
 unfolding rules_from
 rules_from-comes [] user n earlier few =
@@ -82,7 +82,7 @@ rules_from-comes (line ∷ ls) user n earlier few =
             | Ok rule ↦ λ read.
                 let next = next_rule-ok user n earlier line rule read in
                 let room = next.room in
-                behind user n earlier line ls rule (rules_from user (n + 1) (earlier ++ rule ∷ []) ls) next
+                after user n earlier line ls rule (rules_from user (n + 1) (earlier ++ rule ∷ []) ls) next
                 (rules_from-comes ls user (n + 1) (earlier ++ rule ∷ []) (omega (arith, room, length-append earlier (rule ∷ []))))
             | Err fault ↦ λ refused. here user n earlier (line ∷ ls) (Err fault) few (next_rule-err user n earlier line ls fault few other refused)
           ] refl
@@ -97,14 +97,14 @@ rules_from-written [] user n earlier rest each few =
     let number : n ≡ n + 0 = omega arith in
     ap (λ (m : ℕ). rules_from user m earlier rest) number ∙ ap (λ (rules : List Rule). rules_from user (n + 0) rules rest) (sym (append-nil earlier))
 rules_from-written (first ∷ more) user n earlier rest each few =
-    let after = earlier ++ first.rule ∷ [] in
-    let count : length after ≡ length earlier + 1 = length-append earlier (first.rule ∷ []) in
+    let joined = earlier ++ first.rule ∷ [] in
+    let count : length joined ≡ length earlier + 1 = length-append earlier (first.rule ∷ []) in
     let number : (n + 1) + length more ≡ n + length (first ∷ more) = omega arith in
     let room : length earlier < 64 = omega arith in
     rules_from-next user n earlier first.rule (map line_of_rule (first ∷ more) ++ rest) (map line_of_rule more ++ rest) (line_of_rule first) refl
     (is_end-rule_text (line_of_rule first) first.rule.sign first.rule.id first.path refl) (next_rule-written user n earlier first each.0 room)
-    ∙ rules_from-written more user (n + 1) after rest each.1 (omega (arith, count))
-    ∙ ap (λ (m : ℕ). rules_from user m (after ++ map rule_of_line more) rest) number
+    ∙ rules_from-written more user (n + 1) joined rest each.1 (omega (arith, count))
+    ∙ ap (λ (m : ℕ). rules_from user m (joined ++ map rule_of_line more) rest) number
     ∙ ap (λ (rules : List Rule). rules_from user (n + length (first ∷ more)) rules rest) (append_assoc earlier (first.rule ∷ []) (map rule_of_line more))
 
 -- `end` alone ends rules within the limits.
@@ -120,9 +120,9 @@ no_line_refused user n rules (line ∷ rest) few none =
     rules_from-refused user n rules (line ∷ rest) rest line refl other (BadLicence n)
     (next_rule-no_line user n rules line few (λ next. none.no_rule line rest refl next) (λ more. none.no_more line rest refl more))
 
-behind_end_refused : (user : List ℕ) (n : ℕ) (rules : List Rule) (rest : Lines) → HasLineBehindEnd rest → rules_from user n rules rest ≡ Err (BadLicence (n + 1))
+after_end_refused : (user : List ℕ) (n : ℕ) (rules : List Rule) (rest : Lines) → HasLineAfterEnd rest → rules_from user n rules rest ≡ Err (BadLicence (n + 1))
 unfolding rules_from
-behind_end_refused user n rules rest has = ap (λ (ls : Lines). rules_from user n rules ls) has.2
+after_end_refused user n rules rest has = ap (λ (ls : Lines). rules_from user n rules ls) has.2
 
 past_limits_refused : (user : List ℕ) (n : ℕ) (rules : List Rule) (rest : Lines) → ArePastLimits rules rest → rules_from user n rules rest ≡ Err TooManyStates
 unfolding rules_from
@@ -138,11 +138,11 @@ too_many_refused user n rules rest many =
     rules_from-refused user n rules rest many.1 many.0 many.2 (is_end-begins_rule many.0 many.3.1) TooManyRules (next_rule-full user n rules many.0 many.3)
 
 -- Lines that are refused for a cause are refused so.
-pub rules_from-cause : (user : List ℕ) (n : ℕ) (rules : List Rule) (rest : Lines) (fault : LicenceFault) → length rules ≤ 64 → IsRefusedBehind user n rules rest fault
+pub rules_from-cause : (user : List ℕ) (n : ℕ) (rules : List Rule) (rest : Lines) (fault : LicenceFault) → length rules ≤ 64 → IsRefusedAfter user n rules rest fault
     → rules_from user n rules rest ≡ Err fault
 rules_from-cause user n rules rest (BadLicence line) few cause = elim cause [
   | inl none ↦ no_line_refused user n rules rest few none.1 ∙ ap (λ (m : ℕ). Err (BadLicence m)) (sym none.0)
-  | inr end ↦ behind_end_refused user n rules rest end.1 ∙ ap (λ (m : ℕ). Err (BadLicence m)) (sym end.0)
+  | inr end ↦ after_end_refused user n rules rest end.1 ∙ ap (λ (m : ℕ). Err (BadLicence m)) (sym end.0)
 ]
 rules_from-cause user n rules rest (BadRule line at) few cause =
     bad_path_refused user n rules rest at cause.1 ∙ ap (λ (m : ℕ). Err (BadRule m at)) (sym cause.0)

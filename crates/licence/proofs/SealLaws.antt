@@ -1,4 +1,5 @@
--- A sealed licence: what it shows that it was read or refused, how it is read from what it says, and what sealing writes.
+-- A sealed licence: what follows from the answer that it was read or refused, how it is read where bytes say it, and
+-- what sealing writes.
 use Rattle.std.proofs.Common.{◌≡◌, ℕ, ◌+◌, inl, inr, not, List, ◌∷◌, ◌++◌, length, nat_eq, Bool, true, false, cond, Option, Some, None, Result, Ok, Err, refl, ap, sym, subst, ◌∙◌, length-append, arith}
 use Rattle.std.proofs.lemmas.List.Sums.{list_all-from_AllPass}
 use Rattle.std.specs.Option.{option_map, option_and_then}
@@ -11,22 +12,22 @@ use Rattle.acl_model.specs.Ascii.{line_feed}
 use Rattle.acl_model.specs.Lines.{cut_at, lacks}
 use Rattle.acl_model.proofs.LineLaws.{cut_at-append, lacks-list_all, lacks-append}
 use Rattle.hmac_tag.specs.Hmac.{hmac}
-use Rattle.licence.specs.Forms.{text_behind, bytes_behind}
+use Rattle.licence.specs.Forms.{text_after, bytes_after}
 use Rattle.licence.specs.Body.{read_body_from, read_body_of}
 use Rattle.licence.specs.Sealed.{seal_word, IsSealed, SaysSealed, IsRefusedSealed, seal_and_body, read_under_seal, read_licence_of, sealed_text, sealed_text_of}
 use Rattle.licence.specs.Sealed.IsRefusedSealed.{NoSeal, OtherSeal, BadBody}
 use Rattle.licence.specs.declared.fault.LicenceFault.{LicenceFault}
 use Rattle.licence.specs.declared.fault.LicenceFault.TheVariants.{BadSeal, BadLicence}
 use Rattle.licence.specs.declared.terms.Licence.{Licence}
-use Rattle.licence.proofs.FormLaws.{same_value, same_fault, not_both, not_err, bind-ok, bind-err, option_map-some, pointwise-same, pointwise-self, not_so, bytes_behind-some, bytes_behind-digits}
+use Rattle.licence.proofs.FormLaws.{same_value, same_fault, not_both, not_err, bind-ok, bind-err, option_map-some, pointwise-same, pointwise-self, not_so, bytes_after-some, bytes_after-digits}
 use Rattle.licence.proofs.RuleLaws.{cut_at-some}
 use Rattle.licence.proofs.BodyLaws.{read_body_from-says, read_body_from-said, read_body_from-refused, read_body_from-cause}
 use Rattle.licence.proofs.Digests.{hmac-size, hmac-bytes}
 
 -- ---- the seal line
 
-seal_behind : (rest : List ℕ) → text_behind seal_word (seal_word ++ rest) ≡ Some rest
-seal_behind rest = refl
+seal_after : (rest : List ℕ) → text_after seal_word (seal_word ++ rest) ≡ Some rest
+seal_after rest = refl
 
 -- the seal and the body, as one value
 abbrev Parts : Type 0
@@ -34,17 +35,17 @@ Parts = List ℕ × List ℕ
 
 parts_show : (bytes seal body : List ℕ) → seal_and_body bytes ≡ Some (seal, body) → IsSealed bytes seal body
 parts_show bytes seal body h =
-    option_and_then_some (λ (p : Parts). option_map (λ s. (s, p.1)) (bytes_behind seal_word 32 p.0)) (cut_at line_feed bytes) (seal, body) h
+    option_and_then_some (λ (p : Parts). option_map (λ s. (s, p.1)) (bytes_after seal_word 32 p.0)) (cut_at line_feed bytes) (seal, body) h
     (λ p at made.
-    let found = option_map-some (λ s. (s, p.1)) (bytes_behind seal_word 32 p.0) (seal, body) made in
-    let digits : bytes_behind seal_word 32 p.0 ≡ Some seal = found.1 ∙ ap (λ (q : Parts). Some q.0) found.2 in
+    let found = option_map-some (λ s. (s, p.1)) (bytes_after seal_word 32 p.0) (seal, body) made in
+    let digits : bytes_after seal_word 32 p.0 ≡ Some seal = found.1 ∙ ap (λ (q : Parts). Some q.0) found.2 in
     record {
       line = p.0;
-      digits = bytes_behind-some seal_word 32 p.0 seal digits;
+      digits = bytes_after-some seal_word 32 p.0 seal digits;
       text = cut_at-some line_feed bytes p.0 p.1 at ∙ ap (λ (q : Parts). p.0 ++ (line_feed ∷ q.1)) found.2;
     })
 
--- Digits lack a line feed.
+-- Digits contain no line feed.
 digits_lack : (digits bytes : List ℕ) (count : ℕ) → decode_sized digits count ≡ Ok bytes → lacks line_feed digits ≡ true
 digits_lack digits bytes count h =
     let ok = decode_of-ok digits bytes (sym (decode_sized-twice digits count (decode_sized-ok digits count bytes h)) ∙ h) in
@@ -54,9 +55,9 @@ parts_take : (bytes seal body : List ℕ) → IsSealed bytes seal body → seal_
 parts_take bytes seal body is =
     let line_lacks : lacks line_feed is.line ≡ true =
     ap (lacks line_feed) is.digits.1 ∙ lacks-append line_feed seal_word is.digits.0 refl (digits_lack is.digits.0 seal 32 is.digits.2) in
-    let behind : Option Parts → Option Parts = λ o. option_and_then (λ (p : Parts). option_map (λ s. (s, p.1)) (bytes_behind seal_word 32 p.0)) o in
-    ap (λ (b : List ℕ). behind (cut_at line_feed b)) is.text ∙ ap behind (cut_at-append line_feed is.line body line_lacks)
-    ∙ ap (λ o. option_map (λ s. (s, body)) o) (bytes_behind-digits seal_word seal_behind 32 is.line seal is.digits)
+    let after : Option Parts → Option Parts = λ o. option_and_then (λ (p : Parts). option_map (λ s. (s, p.1)) (bytes_after seal_word 32 p.0)) o in
+    ap (λ (b : List ℕ). after (cut_at line_feed b)) is.text ∙ ap after (cut_at-append line_feed is.line body line_lacks)
+    ∙ ap (λ o. option_map (λ s. (s, body)) o) (bytes_after-digits seal_word seal_after 32 is.line seal is.digits)
 
 -- ---- what is read under a seal
 
@@ -127,7 +128,7 @@ read_licence_of-cause key bytes fault (BadBody body sealed refused) =
 
 -- ---- the steps of a reader
 
--- what a test whether two seals differ has told
+-- what follows from the test whether two seals differ
 pub seals_differ : (told : Bool) (given made : List ℕ) → told ≡ not (pointwise nat_eq given made) → told ≡ true → given ≡ made → ⊥
 seals_differ told given made test differ same =
     let self : pointwise nat_eq given made ≡ true = ap (λ (s : List ℕ). pointwise nat_eq s made) same ∙ pointwise-self made in
@@ -144,24 +145,24 @@ pub read_licence_of-no_line : (key bytes : List ℕ) → cut_at line_feed bytes 
 unfolding read_licence_of
 read_licence_of-no_line key bytes none = rw none refl
 
-pub read_licence_of-no_seal : (key bytes line body : List ℕ) → cut_at line_feed bytes ≡ Some (line, body) → bytes_behind seal_word 32 line ≡ None → read_licence_of bytes key ≡ Err (BadLicence 1)
+pub read_licence_of-no_seal : (key bytes line body : List ℕ) → cut_at line_feed bytes ≡ Some (line, body) → bytes_after seal_word 32 line ≡ None → read_licence_of bytes key ≡ Err (BadLicence 1)
 unfolding read_licence_of
 read_licence_of-no_seal key bytes line body some none =
-    ap (λ o. read_under_seal key (option_and_then (λ (p : Parts). option_map (λ s. (s, p.1)) (bytes_behind seal_word 32 p.0)) o)) some
+    ap (λ o. read_under_seal key (option_and_then (λ (p : Parts). option_map (λ s. (s, p.1)) (bytes_after seal_word 32 p.0)) o)) some
     ∙ ap (λ o. read_under_seal key (option_map (λ s. (s, body)) o)) none
 
-parts_read : (bytes line body seal : List ℕ) → cut_at line_feed bytes ≡ Some (line, body) → bytes_behind seal_word 32 line ≡ Some seal → seal_and_body bytes ≡ Some (seal, body)
+parts_read : (bytes line body seal : List ℕ) → cut_at line_feed bytes ≡ Some (line, body) → bytes_after seal_word 32 line ≡ Some seal → seal_and_body bytes ≡ Some (seal, body)
 parts_read bytes line body seal some digits =
-    ap (λ o. option_and_then (λ (p : Parts). option_map (λ s. (s, p.1)) (bytes_behind seal_word 32 p.0)) o) some
+    ap (λ o. option_and_then (λ (p : Parts). option_map (λ s. (s, p.1)) (bytes_after seal_word 32 p.0)) o) some
     ∙ ap (λ o. option_map (λ s. (s, body)) o) digits
 
-pub read_licence_of-other_seal : (key bytes line body seal made : List ℕ) → cut_at line_feed bytes ≡ Some (line, body) → bytes_behind seal_word 32 line ≡ Some seal
+pub read_licence_of-other_seal : (key bytes line body seal made : List ℕ) → cut_at line_feed bytes ≡ Some (line, body) → bytes_after seal_word 32 line ≡ Some seal
     → made ≡ hmac key body → (seal ≡ made → ⊥) → read_licence_of bytes key ≡ Err (BadSeal seal made)
 read_licence_of-other_seal key bytes line body seal made some digits tag other =
     read_parts key bytes (Some (seal, body)) (parts_read bytes line body seal some digits) ∙ under_wrong key seal body (λ same. other (same ∙ sym tag))
     ∙ ap (λ (m : List ℕ). Err (BadSeal seal m)) (sym tag)
 
-pub read_licence_of-right_seal : (key bytes line body seal made : List ℕ) → cut_at line_feed bytes ≡ Some (line, body) → bytes_behind seal_word 32 line ≡ Some seal
+pub read_licence_of-right_seal : (key bytes line body seal made : List ℕ) → cut_at line_feed bytes ≡ Some (line, body) → bytes_after seal_word 32 line ≡ Some seal
     → made ≡ hmac key body → seal ≡ made → read_licence_of bytes key ≡ read_body_from 2 body
 read_licence_of-right_seal key bytes line body seal made some digits tag same =
     read_parts key bytes (Some (seal, body)) (parts_read bytes line body seal some digits)

@@ -76,7 +76,7 @@ pub read_body_from-user : (n : ℕ) (bytes : List ℕ) (more still_more : Lines)
 unfolding read_body_from
 read_body_from-user n bytes more still_more root_bytes fault first root user = rw (first, root, user) refl
 
--- Behind the first three lines the rules decide.
+-- After the first three lines the rules decide.
 pub read_body_from-rules : (n : ℕ) (bytes : List ℕ) (more still_more rest : Lines) (root_bytes user_bytes : List ℕ)
     → line_of_form (BadLicence n) title_line (lines bytes) ≡ Ok (tt, more) → line_of_form (BadLicence (n + 1)) root_line more ≡ Ok (root_bytes, still_more)
     → line_of_form (BadLicence (n + 2)) user_line still_more ≡ Ok (user_bytes, rest)

@@ -1,4 +1,4 @@
--- A body that is written of valid parts is read as these parts.
+-- A body that is written from valid parts is read as these parts.
 use Rattle.std.proofs.Common.{◌≡◌, ℕ, ◌/◌, ◌%◌, ◌<◌, List, [], ◌∷◌, ◌++◌, map, length, nat_eq, nat_le, nat_lt, true, false, not, ◌&&◌, Some, None, Ok, codes, refl, ap, sym, ◌∙◌, arith, suc}
 use Rattle.std.specs.Prelude.{slice_index}
 use Rattle.std.specs.List.{list_all}
@@ -18,9 +18,9 @@ use Rattle.acl_model.specs.declared.rule.Sign.TheVariants.{Grant, Deny}
 use Rattle.xpath_rules.specs.declared.quote.Quote.TheVariants.{Double, Single}
 use Rattle.xpath_rules.specs.declared.state.State.{State}
 use Rattle.xpath_rules.specs.declared.state.Inside.{Inside}
-use Rattle.xpath_rules.specs.Machine.{choose, inside_rows, step, run}
+use Rattle.xpath_rules.specs.PathMachine.{choose, inside_rows, step, run}
 use Rattle.xpath_rules.specs.Canonical.{canonical_text}
-use Rattle.xpath_rules.specs.Answers.{CanBeRead}
+use Rattle.xpath_rules.specs.PathAnswers.{CanBeRead}
 use Rattle.xpath_rules.proofs.PathRuns.{path_run}
 use Rattle.xpath_rules.proofs.Places.{read_within, read_spelled}
 use Rattle.xpath_rules.proofs.RoundTrip.{canonical_spells, canonical_shorter}
@@ -41,13 +41,13 @@ inside_refuses user Inside.DotSlash = refl
 inside_refuses user (Inside.InWay level) = refl
 inside_refuses user (Inside.WaySlash way) = refl
 inside_refuses user (Inside.WaySlashes way) = refl
-inside_refuses user (Inside.BehindAt way) = refl
+inside_refuses user (Inside.AfterAt way) = refl
 inside_refuses user (Inside.InAttribute way name) = refl
-inside_refuses user (Inside.BehindBody body) = refl
+inside_refuses user (Inside.AfterBody body) = refl
 inside_refuses user (Inside.Exclamation body) = refl
 inside_refuses user (Inside.Less body) = refl
 inside_refuses user (Inside.Greater body) = refl
-inside_refuses user (Inside.BehindSign c) = refl
+inside_refuses user (Inside.AfterSign c) = refl
 inside_refuses user (Inside.InLiteral c Double bytes) = refl
 inside_refuses user (Inside.InLiteral c Single bytes) = refl
 inside_refuses user (Inside.Minus c) = refl
@@ -55,12 +55,12 @@ inside_refuses user (Inside.InNumber c digits) = refl
 inside_refuses user (Inside.LetterU c) = refl
 inside_refuses user (Inside.LettersUs c) = refl
 inside_refuses user (Inside.LettersUse c) = refl
-inside_refuses user (Inside.BehindOperand pred) = refl
+inside_refuses user (Inside.AfterOperand pred) = refl
 
 refuses : (user : List ℕ) (s : State) → step user s line_feed ≡ None
 refuses user State.Start = refl
-refuses user (State.BehindSlash done) = refl
-refuses user (State.BehindSlashes done) = refl
+refuses user (State.AfterSlash done) = refl
+refuses user (State.AfterSlashes done) = refl
 refuses user (State.InStep level) = refl
 refuses user (State.InPredicate level inside) = rw (inside_refuses user inside) refl
 

@@ -1,4 +1,5 @@
--- The body of a licence as it is written, a text of lines, and which bytes say which licence. This project's own format.
+-- The body of a licence, a text of lines: its format, and which bytes say which licence. Bytes *say* a licence where
+-- they are a body of the right form with the licence's root, user and rules. Defined by this project.
 use Rattle.std.specs.Prelude.{◌≡◌, ℕ, ◌≤◌, nat_eq, nat_le, nat_lt, Bool, false, not, ◌&&◌, ◌||◌, List, [], ◌∷◌, ◌++◌, map, length, sum_by, codes, IsTrue}
 use Rattle.std.specs.Char.{is_ascii_alphabetic, is_ascii_digit}
 use Rattle.std.specs.List.{list_all, list_any, concat}
@@ -11,10 +12,10 @@ use Rattle.acl_model.specs.Lines.{as_line, lines}
 use Rattle.acl_model.specs.declared.rule.Rule.{Rule}
 use Rattle.acl_model.specs.declared.rule.Sign.{Sign}
 use Rattle.acl_model.specs.declared.rule.Sign.TheVariants.{Grant, Deny}
-use Rattle.xpath_rules.specs.Reading.{Spells}
+use Rattle.xpath_rules.specs.PathReading.{Spells}
 use Rattle.xpath_rules.specs.Canonical.{canonical_text}
 use Rattle.xpath_rules.specs.Counting.{step_count, pred_step_count, pred_count}
-use Rattle.xpath_rules.specs.Answers.{CanBeRead}
+use Rattle.xpath_rules.specs.PathAnswers.{CanBeRead}
 use Rattle.licence.specs.Forms.{Lines, HasDigits}
 use Rattle.licence.specs.declared.terms.Licence.{Licence}
 
@@ -24,7 +25,7 @@ use Rattle.licence.specs.declared.terms.Licence.{Licence}
 abbrev pub title : List ℕ
 title = codes "licence 1"
 
--- The second is `root ` and 64 digits.
+-- The second begins with `root `, and 64 digits follow.
 abbrev pub root_word : List ℕ
 root_word = codes "root "
 
@@ -32,7 +33,7 @@ root_word = codes "root "
 abbrev pub user_text : List ℕ → List ℕ
 user_text user = codes "user " ++ user
 
--- '+' stands for a grant, and '-' for a denial.
+-- '+' is a grant, and '-' is a denial.
 abbrev pub sign_byte : Sign → ℕ
 sign_byte Grant = plus
 sign_byte Deny = hyphen
@@ -45,22 +46,22 @@ rule_text sign id path = sign_byte sign ∷ space ∷ (id ++ (space ∷ path))
 abbrev pub last_line : List ℕ
 last_line = codes "end"
 
--- a rule, and the bytes that its line has for its path
+-- a rule, and the bytes of the path in its line
 pub record WrittenRule : Type 0 where
   pub rule : Rule
   pub path : List ℕ
 
--- the line of such a rule
+-- the line of a written rule
 abbrev pub line_of_rule : WrittenRule → List ℕ
 line_of_rule written = rule_text written.rule.sign written.rule.id written.path
 
--- the rule of such a line
+-- the rule of a written rule
 abbrev pub rule_of_line : WrittenRule → Rule
 rule_of_line written = written.rule
 
--- ---- what may stand in them
+-- ---- what the lines may contain
 
--- A byte that may stand in a user is no control character of ASCII.
+-- A byte may be in a user where it is no control character of ASCII.
 abbrev pub is_user_byte : ℕ → Bool
 is_user_byte b = nat_le space b && not (nat_eq b delete) && is_byte b
 
@@ -69,7 +70,7 @@ abbrev pub is_user : List ℕ → Bool
 is_user user =
     nat_lt 0 (length user) && nat_le (length user) most_user_bytes && list_all is_user_byte user
 
--- In an id may stand letters and digits of ASCII, '_', '-' and '.'.
+-- A byte may be in an id where it is a letter or a digit of ASCII, '_', '-' or '.'.
 abbrev pub is_id_byte : ℕ → Bool
 is_id_byte b = is_ascii_alphabetic b || is_ascii_digit b || nat_eq b underscore || nat_eq b hyphen || nat_eq b full_stop
 
@@ -85,7 +86,7 @@ has_id id rule = pointwise nat_eq rule.id id
 abbrev pub is_known_id : List ℕ → List Rule → Bool
 is_known_id id rules = list_any (has_id id) rules
 
--- The rules have together at most 256 steps, at most 256 predicate steps, and at most 64 predicates.
+-- All rules together have at most 256 steps, at most 256 predicate steps, and at most 64 predicates.
 abbrev pub are_within_limits : List Rule → Bool
 are_within_limits rules =
     nat_le (sum_by (λ rule. step_count rule.path) rules) most_steps
@@ -94,21 +95,21 @@ are_within_limits rules =
 
 -- ---- which bytes say a licence
 
--- The line stands for its rule behind earlier ones: its id is one that none of them has, and the bytes of its path, at
--- most 1,024, spell the rule's path for the user.
+-- The line is that of its rule, after these earlier rules. Its id is of the right form, and no earlier rule has it. The
+-- bytes of its path, at most 1,024, spell the rule's path for the user.
 pub record IsRuleLine (user : List ℕ) (earlier : List Rule) (written : WrittenRule) : Type 0 where
   pub id : IsTrue (is_id written.rule.id)
   pub is_new : is_known_id written.rule.id earlier ≡ false
   pub path : Spells user written.path written.rule.path
   pub within : length written.path ≤ most_path_bytes
 
--- Each line stands for its rule, behind the earlier rules and those of the lines before it.
+-- Each line is that of its rule, after the earlier rules and those of the lines before it.
 abbrev pub AreRuleLines : List ℕ → List Rule → List WrittenRule → Type 0
 AreRuleLines user earlier [] = Unit {0}
 AreRuleLines user earlier (written ∷ more) = IsRuleLine user earlier written × AreRuleLines user (earlier ++ written.rule ∷ []) more
 
--- The lines begin a body: `licence 1`, the root, the user, and a line for each of the rules, at most 64. The rest is what
--- stands behind them.
+-- The lines begin a body: `licence 1`, the root, the user, and a line for each of the rules, at most 64. `rest` are the
+-- lines that follow.
 pub record Begins (ls : Lines) (root user : List ℕ) (rules : List Rule) (rest : Lines) : Type 0 where
   pub root_line : List ℕ
   pub digits : HasDigits root_word 32 root_line root
@@ -119,40 +120,41 @@ pub record Begins (ls : Lines) (root user : List ℕ) (rules : List Rule) (rest 
   pub few : length rules ≤ most_rules
   pub text : ls ≡ title ∷ root_line ∷ user_text user ∷ (map line_of_rule written ++ rest)
 
--- These bytes say this licence: their lines begin its body, behind its rules stands `end` and nothing more, and the rules
--- are within the limits. The last line feed may be missing.
+-- The bytes say this licence: their lines begin its body, `end` and nothing else follows the rules, and the rules are
+-- within the limits. The last line feed may be missing.
 pub record Says (bytes : List ℕ) (licence : Licence) : Type 0 where
   pub begins : Begins (lines bytes) licence.root licence.user licence.rules (last_line ∷ [])
   pub limits : IsTrue (are_within_limits licence.rules)
 
 -- ---- the text of a licence
 
--- The canonical spelling of its path is written behind a rule's sign and id.
+-- The canonical line of a rule has its sign, its id, and the canonical spelling of its path.
 abbrev pub canonical_line : Rule → List ℕ
 canonical_line rule = rule_text rule.sign rule.id (canonical_text rule.path)
 
--- The root is written in lower case, and each rule has its canonical line.
+-- The lines that are written for a licence. The root's digits are in lower case, and each rule has its canonical line.
 abbrev pub body_lines : Licence → Lines
 body_lines licence =
     title ∷ (root_word ++ encode_lower licence.root) ∷ user_text licence.user ∷ (map canonical_line licence.rules ++ (last_line ∷ []))
 
--- The text of a licence is these lines, each with its line feed.
+-- The text of a licence's body is these lines, each with its line feed.
 abbrev pub body_text : Licence → List ℕ
 body_text licence = concat (map as_line (body_lines licence))
 
--- The rule may stand behind earlier ones: its id is one that none of them has, and its path can be read for the user.
+-- The rule may follow these earlier rules: its id is of the right form and none of them has it, and its path can be
+-- read for the user.
 pub record MayStand (user : List ℕ) (earlier : List Rule) (rule : Rule) : Type 0 where
   pub id : IsTrue (is_id rule.id)
   pub is_new : is_known_id rule.id earlier ≡ false
   pub path : CanBeRead user rule.path
 
--- Each of the rules may stand behind the earlier ones and those before it.
+-- Each of the rules may follow the earlier ones and those before it.
 abbrev pub EachMayStand : List ℕ → List Rule → List Rule → Type 0
 EachMayStand user earlier [] = Unit {0}
 EachMayStand user earlier (rule ∷ more) = MayStand user earlier rule × EachMayStand user (earlier ++ rule ∷ []) more
 
--- A licence can be written where its parts are valid: a root of 32 bytes, a user, and at most 64 rules within the limits,
--- each of which may stand in its place.
+-- A licence can be written where its parts are valid: a root of 32 bytes, a user, and at most 64 rules within the
+-- limits, each of which may follow those before it.
 pub record CanBeWritten (licence : Licence) : Type 0 where
   pub root : length licence.root ≡ 32
   pub root_bytes : IsTrue (are_bytes licence.root)

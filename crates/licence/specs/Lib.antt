@@ -1,6 +1,6 @@
 pub mod Forms
 pub mod BodyText
-pub mod Refusals
+pub mod BodyRefusals
 pub mod Body
 pub mod Sealed
 pub mod Keys

@@ -1,4 +1,4 @@
-//! Reads the body of a licence. Its lines are taken in order, and the first one that is refused decides.
+//! Reads the body of a licence. Its lines are read in order, and the first one that is refused is the answer.
 
 ghost use Rattle.std.specs.Prelude.{◌≤◌, IfOk};
 ghost use Rattle.licence.specs.BodyText.{Says};
@@ -11,7 +11,7 @@ use crate::terms::Licence;
 use acl_model::Bytes;
 use std::alloc::Global;
 
-/// The licence of a body whose first line has the number `first` in the bytes that are read.
+/// Reads a body whose first line has the number `first`.
 pub fn read_body_from(alloc: Global, first: u32, bytes: &[u8]) -> Result<Licence, LicenceFault>
     requires { first ≤ 2 }
     ensures { Reads (read_body_from first bytes.now) result }
@@ -24,7 +24,7 @@ pub fn read_body_from(alloc: Global, first: u32, bytes: &[u8]) -> Result<Licence
     Ok(Licence { root, user, rules })
 }
 
-/// Reads a body without a seal line. The answer is the licence, or the body's first fault; it is never `BadSeal`.
+/// Reads a body without a seal line. The answer is the licence or the body's first fault, and never `BadSeal`.
 pub fn read_body(alloc: Global, bytes: &[u8]) -> Result<Licence, LicenceFault>
     ensures exact { Reads (read_body_of bytes.now) result }
     ensures said { IfOk result (λ licence. Says bytes.now licence) }

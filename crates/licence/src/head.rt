@@ -1,4 +1,5 @@
-//! Reads the first three lines of a body: `licence 1`, the root, and the user. Each is told its number.
+//! Reads the first three lines of a body: `licence 1`, the root, and the user. Each function takes the number of its
+//! line.
 
 ghost use Rattle.std.specs.Prelude.{◌≡◌, Ok, Err, MatchResult};
 ghost use Rattle.std.specs.List.{list_all};
@@ -10,42 +11,47 @@ ghost use Rattle.licence.specs.Body.{title_line, root_line, user_line};
 ghost use Rattle.licence.specs.declared.fault.LicenceFault.TheVariants.{BadLicence};
 
 use crate::fault::LicenceFault;
-use crate::forms::{read_32_bytes, rest_behind};
+use crate::forms::{read_32_bytes, rest_after};
 use acl_model::limits::MOST_USER_BYTES;
 use acl_model::next_line;
 
+/// Whether the byte may be in a user.
 fn may_stand_in_user(byte: u8) -> bool
     ensures { result ≡ is_user_byte byte }
 {
     byte >= b' ' && byte != 127
 }
 
+/// Whether each byte may be in a user.
 fn all_may_stand_in_user(bytes: &[u8]) -> bool
     ensures { result ≡ list_all is_user_byte bytes.now }
 {
     bytes.iter().all(|byte| may_stand_in_user(*byte))
 }
 
+/// Whether the bytes are a user: 1 to 255 bytes that may be in one.
 fn is_a_user(bytes: &[u8]) -> bool
     ensures { result ≡ is_user bytes.now }
 {
     !bytes.is_empty() && bytes.len() <= MOST_USER_BYTES && all_may_stand_in_user(bytes)
 }
 
+/// The root in its line. `None` where the line is not of its form.
 fn read_root(line: &[u8]) -> Option<[u8; 32]>
     ensures { result ≡ root_line line.now }
 {
     read_32_bytes(b"root ", line)
 }
 
+/// The user in its line. `None` where the line is not of its form.
 fn read_user(line: &[u8]) -> Option<&[u8]>
     ensures { option_copied result ≡ user_line line.now }
 {
-    let user = rest_behind(b"user ", line)?;
+    let user = rest_after(b"user ", line)?;
     if is_a_user(user) { Some(user) } else { None }
 }
 
-/// What stands behind the first line.
+/// Reads the line `licence 1`. The answer is the bytes after it.
 pub fn read_title_line(line: u32, bytes: &[u8]) -> Result<&[u8], LicenceFault>
     ensures { MatchResult result
         (λ rest. line_of_form (BadLicence line) title_line (lines bytes.now) ≡ Ok (tt, lines rest.now))
@@ -57,7 +63,7 @@ pub fn read_title_line(line: u32, bytes: &[u8]) -> Result<&[u8], LicenceFault>
     }
 }
 
-/// The root, and what stands behind its line.
+/// Reads the root's line. The answer is the root, and the bytes after the line.
 pub fn read_root_line(line: u32, bytes: &[u8]) -> Result<([u8; 32], &[u8]), LicenceFault>
     ensures { MatchResult result
         (λ read. line_of_form (BadLicence line) root_line (lines bytes.now) ≡ Ok (read.0, lines read.1.now))
@@ -72,7 +78,7 @@ pub fn read_root_line(line: u32, bytes: &[u8]) -> Result<([u8; 32], &[u8]), Lice
     }
 }
 
-/// The user, and what stands behind its line.
+/// Reads the user's line. The answer is the user, and the bytes after the line.
 pub fn read_user_line(line: u32, bytes: &[u8]) -> Result<(&[u8], &[u8]), LicenceFault>
     ensures { MatchResult result
         (λ read. line_of_form (BadLicence line) user_line (lines bytes.now) ≡ Ok (read.0.now, lines read.1.now))

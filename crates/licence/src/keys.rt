@@ -2,7 +2,7 @@
 
 ghost use Rattle.std.specs.Prelude.{◌≡◌, Ok, Err, MatchResult, IfOk};
 ghost use Rattle.acl_model.specs.Lines.{lines};
-ghost use Rattle.licence.specs.Forms.{bytes_behind, line_of_form};
+ghost use Rattle.licence.specs.Forms.{bytes_after, line_of_form};
 ghost use Rattle.licence.specs.Keys.{document_word, seal_key_word, SaysKeys, read_keys_of, ReadsKeys};
 ghost use Rattle.licence.specs.declared.keys.KeysError.TheVariants.{BadKeys};
 
@@ -11,31 +11,32 @@ use acl_model::next_line;
 use std::alloc::Global;
 use thiserror::Error;
 
-/// The keys of a publisher or a reader. They have no `Debug`, so that none is printed by chance.
+/// The keys of a publisher or a reader. The type has no `Debug`, so that no key is printed by accident.
 #[derive(Clone, Copy)]
 pub struct Keys {
-    /// Under this key a document is enciphered.
+    /// The key under which documents are enciphered.
     pub document: [u8; 16],
-    /// Under this key licences are sealed.
+    /// The key under which licences are sealed.
     pub seal: [u8; 32],
 }
 
 /// Why bytes are no keys.
 #[derive(Debug, Drop, Error)]
 pub enum KeysError {
-    /// The first line that is missing, is not of its form, or stands behind the second. Lines are counted from 1.
+    /// The line is missing, is not of its form, or comes after the second. Lines are counted from 1.
     #[error("line {line} is missing, or it is not of its form")]
     BadKeys { line: u32 },
-    /// There was no memory for the keys.
+    /// Out of memory.
     #[error("no memory")]
     NoMemory,
 }
 
+/// Reads the first line. The answer is the document key, and the bytes after the line.
 fn read_document_line(bytes: &[u8]) -> Result<([u8; 16], &[u8]), KeysError>
     ensures { MatchResult result
-        (λ read. line_of_form (BadKeys 1) (bytes_behind document_word 16) (lines bytes.now)
+        (λ read. line_of_form (BadKeys 1) (bytes_after document_word 16) (lines bytes.now)
         ≡ Ok (read.0, lines read.1.now))
-        (λ error. line_of_form (BadKeys 1) (bytes_behind document_word 16) (lines bytes.now)
+        (λ error. line_of_form (BadKeys 1) (bytes_after document_word 16) (lines bytes.now)
         ≡ Err error) }
 {
     let Some((line, rest)) = next_line(bytes) else {
@@ -47,11 +48,12 @@ fn read_document_line(bytes: &[u8]) -> Result<([u8; 16], &[u8]), KeysError>
     }
 }
 
+/// Reads the second line. The answer is the seal key, and the bytes after the line.
 fn read_seal_key_line(bytes: &[u8]) -> Result<([u8; 32], &[u8]), KeysError>
     ensures { MatchResult result
-        (λ read. line_of_form (BadKeys 2) (bytes_behind seal_key_word 32) (lines bytes.now)
+        (λ read. line_of_form (BadKeys 2) (bytes_after seal_key_word 32) (lines bytes.now)
         ≡ Ok (read.0, lines read.1.now))
-        (λ error. line_of_form (BadKeys 2) (bytes_behind seal_key_word 32) (lines bytes.now)
+        (λ error. line_of_form (BadKeys 2) (bytes_after seal_key_word 32) (lines bytes.now)
         ≡ Err error) }
 {
     let Some((line, rest)) = next_line(bytes) else {
@@ -63,7 +65,7 @@ fn read_seal_key_line(bytes: &[u8]) -> Result<([u8; 32], &[u8]), KeysError>
     }
 }
 
-/// Reads keys. No memory is taken: the allocator stands here for the form of all readers.
+/// Reads keys. It allocates nothing. The allocator is a parameter because all readers have it.
 pub fn read_keys(_alloc: Global, bytes: &[u8]) -> Result<Keys, KeysError>
     ensures exact { ReadsKeys (read_keys_of bytes.now) result }
     ensures said { IfOk result (λ keys. SaysKeys bytes.now keys) }

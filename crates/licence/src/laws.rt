@@ -1,10 +1,10 @@
-//! The laws of reading and writing: what is read is what the bytes say, what is refused has its cause, both ways, and what
-//! is written is read again. These functions do nothing: their contracts are the laws.
+//! The laws of reading and writing. A licence is read exactly where the bytes say it, and refused exactly for its
+//! cause. What is written is read again. These functions do nothing: their contracts are the laws.
 
 ghost use Rattle.std.specs.Prelude.{◌≡◌, ℕ, ◌+◌, List, length, Result, Ok, Err};
 ghost use Rattle.acl_model.specs.Lines.{lines};
 ghost use Rattle.licence.specs.BodyText.{Says, body_text, CanBeWritten};
-ghost use Rattle.licence.specs.Refusals.{IsRefused};
+ghost use Rattle.licence.specs.BodyRefusals.{IsRefused};
 ghost use Rattle.licence.specs.Body.{read_body_of};
 ghost use Rattle.licence.specs.Sealed.{SaysSealed, IsRefusedSealed, read_licence_of, sealed_text_of};
 ghost use Rattle.licence.specs.Keys.{SaysKeys, IsBadKeys, read_keys_of};
@@ -14,7 +14,7 @@ ghost use Rattle.licence.specs.declared.terms.Licence.{Licence};
 ghost use Rattle.licence.specs.declared.keys.Keys.{Keys};
 ghost use Rattle.licence.specs.declared.keys.KeysError.{KeysError};
 
-/// What is read is what the bytes say.
+/// Where bytes are read as a licence or keys, they say that licence or those keys.
 pub fn what_is_read_is_said()
     ensures body { (bytes : List ℕ) (licence : Licence)
         → read_body_of bytes ≡ Ok licence → Says bytes licence }
@@ -24,7 +24,7 @@ pub fn what_is_read_is_said()
         → read_keys_of bytes ≡ Ok keys → SaysKeys bytes keys }
 {}
 
-/// What the bytes say is read. So no bytes say two licences, or two keys.
+/// Where bytes say a licence or keys, they are read as such. So no bytes say two licences, or two pairs of keys.
 pub fn what_is_said_is_read()
     ensures body { (bytes : List ℕ) (licence : Licence)
         → Says bytes licence → read_body_of bytes ≡ Ok licence }
@@ -34,7 +34,7 @@ pub fn what_is_said_is_read()
         → SaysKeys bytes keys → read_keys_of bytes ≡ Ok keys }
 {}
 
-/// What is refused is refused for its cause.
+/// Where bytes are refused, the fault has its cause.
 pub fn what_is_refused_has_a_cause()
     ensures body { (bytes : List ℕ) (fault : LicenceFault)
         → read_body_of bytes ≡ Err fault → IsRefused 1 (lines bytes) fault }
@@ -44,7 +44,7 @@ pub fn what_is_refused_has_a_cause()
         → read_keys_of bytes ≡ Err error → IsBadKeys (lines bytes) error }
 {}
 
-/// Where there is a cause, this is the answer. So no bytes have two causes.
+/// Where there is a cause of a fault, this fault is the answer. So no bytes have causes of two faults.
 pub fn what_has_a_cause_is_refused()
     ensures body { (bytes : List ℕ) (fault : LicenceFault)
         → IsRefused 1 (lines bytes) fault → read_body_of bytes ≡ Err fault }
@@ -54,28 +54,28 @@ pub fn what_has_a_cause_is_refused()
         → IsBadKeys (lines bytes) error → read_keys_of bytes ≡ Err error }
 {}
 
-/// A body has no seal that could be wrong.
+/// Reading or sealing a body is never answered by `BadSeal`: a body has no seal.
 pub fn a_body_is_no_bad_seal()
     ensures body { (bytes given made : List ℕ) → read_body_of bytes ≡ Err (BadSeal given made) → ⊥ }
     ensures text { (key body given made : List ℕ)
         → sealed_text_of body key ≡ Err (BadSeal given made) → ⊥ }
 {}
 
-/// No text itself wants memory.
-pub fn no_text_wants_memory()
+/// `NoMemory` is never the wanted answer for any bytes.
+pub fn no_text_is_out_of_memory()
     ensures body { (bytes : List ℕ) → read_body_of bytes ≡ Err NoMemory → ⊥ }
     ensures sealed { (key bytes : List ℕ) → read_licence_of bytes key ≡ Err NoMemory → ⊥ }
     ensures text { (key body : List ℕ) → sealed_text_of body key ≡ Err NoMemory → ⊥ }
     ensures keys { (bytes : List ℕ) → read_keys_of bytes ≡ Err KeysError.NoMemory → ⊥ }
 {}
 
-/// A body that is written of valid parts is read as these parts.
+/// A body that is written from valid parts is read as these parts.
 pub fn written_is_read()
     ensures { (licence : Licence) → CanBeWritten licence
         → read_body_of (body_text licence) ≡ Ok licence }
 {}
 
-/// A body that can be read is sealed in 70 bytes more, and is read from there under the same key as the same licence.
+/// A sealed body is read under the same key as the licence of the body. It is 70 bytes longer than the body.
 pub fn sealed_is_read()
     ensures read { (key body text : List ℕ) (licence : Licence) → read_body_of body ≡ Ok licence
         → sealed_text_of body key ≡ Ok text → read_licence_of text key ≡ Ok licence }

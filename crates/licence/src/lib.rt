@@ -1,4 +1,4 @@
-//! Licences: which file one speaks of, whose it is, the rules of access that it grants, and its seal; and the keys.
+//! Reads and seals licences, and reads keys. A licence has the root digest of a file, a user, access rules, and a seal.
 #![tactic(auto)]
 
 mod body;
@@ -17,7 +17,7 @@ pub use body::read_body;
 pub use fault::LicenceFault;
 pub use keys::{Keys, KeysError, read_keys};
 pub use laws::{
-    a_body_is_no_bad_seal, no_text_wants_memory, sealed_is_read, what_has_a_cause_is_refused,
+    a_body_is_no_bad_seal, no_text_is_out_of_memory, sealed_is_read, what_has_a_cause_is_refused,
     what_is_read_is_said, what_is_refused_has_a_cause, what_is_said_is_read, written_is_read,
 };
 pub use sealed::{read_licence, seal_text};

@@ -1,4 +1,4 @@
-//! What rules have together, against the limits of a licence.
+//! Checks the limits of a licence: the steps, predicate steps and predicates of all rules together.
 
 ghost use Rattle.std.specs.Prelude.{◌≡◌, sum_by};
 ghost use Rattle.xpath_rules.specs.Counting.{step_count, pred_step_count, pred_count, in_32_bits};
@@ -8,6 +8,7 @@ use acl_model::Rule;
 use acl_model::limits::{MOST_PRED_STEPS, MOST_PREDS, MOST_STEPS};
 use xpath_rules::count_states;
 
+/// The steps of all rules.
 fn count_steps(rules: &[Rule]) -> u32
     ensures { result ≡ in_32_bits (sum_by (λ rule. step_count rule.path) rules.now) }
 {
@@ -18,6 +19,7 @@ fn count_steps(rules: &[Rule]) -> u32
     count
 }
 
+/// The predicate steps of all rules.
 fn count_pred_steps(rules: &[Rule]) -> u32
     ensures { result ≡ in_32_bits (sum_by (λ rule. pred_step_count rule.path) rules.now) }
 {
@@ -28,6 +30,7 @@ fn count_pred_steps(rules: &[Rule]) -> u32
     count
 }
 
+/// The predicates of all rules.
 fn count_preds(rules: &[Rule]) -> u32
     ensures { result ≡ in_32_bits (sum_by (λ rule. pred_count rule.path) rules.now) }
 {
@@ -38,7 +41,7 @@ fn count_preds(rules: &[Rule]) -> u32
     count
 }
 
-/// Whether the rules have together few enough steps, predicate steps and predicates.
+/// Whether all rules together are within the three limits.
 pub fn are_within_limits(rules: &[Rule]) -> bool
     ensures { result ≡ are_within_limits rules.now }
 {

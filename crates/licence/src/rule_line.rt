@@ -1,4 +1,4 @@
-//! A rule line of a licence: a sign, a space, an id, a space and a path. Its path is not read here.
+//! A rule line of a licence: a sign (grant or deny), a space, an id, a space and a path. The path is not read here.
 
 ghost use Rattle.std.specs.Prelude.{◌≡◌, MatchOption};
 ghost use Rattle.std.specs.List.{list_all};
@@ -8,7 +8,7 @@ ghost use Rattle.licence.specs.Body.{sign_of, rule_line};
 use acl_model::limits::MOST_ID_BYTES;
 use acl_model::{Sign, cut};
 
-/// The parts of the line, each as it stands.
+/// The parts of a rule line. The path is any bytes.
 #[derive(Clone, Copy)]
 pub struct RuleLine<'a> {
     pub sign: Sign,
@@ -16,6 +16,7 @@ pub struct RuleLine<'a> {
     pub path: &'a [u8],
 }
 
+/// The sign of this byte. `None` where it is none.
 fn read_sign(byte: u8) -> Option<Sign>
     ensures { result ≡ sign_of byte }
 {
@@ -26,6 +27,7 @@ fn read_sign(byte: u8) -> Option<Sign>
     }
 }
 
+/// Whether the byte may be in an id.
 fn may_stand_in_id(byte: u8) -> bool
     ensures { result ≡ is_id_byte byte }
 {
@@ -36,12 +38,14 @@ fn may_stand_in_id(byte: u8) -> bool
         || byte == b'.'
 }
 
+/// Whether each byte may be in an id.
 fn all_may_stand_in_id(bytes: &[u8]) -> bool
     ensures { result ≡ list_all is_id_byte bytes.now }
 {
     bytes.iter().all(|byte| may_stand_in_id(*byte))
 }
 
+/// Whether the bytes are an id: 1 to 32 bytes that may be in one.
 fn is_an_id(bytes: &[u8]) -> bool
     ensures { result ≡ is_id bytes.now }
 {

@@ -1,4 +1,4 @@
-//! Reads the rules of a body, to its end. Its lines are taken in order, and the first one that is refused decides.
+//! Reads the rules of a body, to its end. The lines are read in order, and the first one that is refused is the answer.
 
 ghost use Rattle.std.specs.Prelude.{◌≡◌, ◌≤◌, ◌+◌, ◌^◌, ◌<◌, [], length};
 ghost use Rattle.acl_model.specs.Lines.{lines};
@@ -13,12 +13,14 @@ use acl_model::{Bytes, Rule, Sequence, next_line};
 use std::alloc::Global;
 use xpath_rules::{PathError, read_path};
 
+/// Whether some rule has this id.
 fn is_known_id(id: &[u8], rules: &[Rule]) -> bool
     ensures { result ≡ is_known_id id.now rules.now }
 {
     rules.iter().any(|rule| rule.id.as_slice() == id)
 }
 
+/// The fault of a line after 64 rules.
 fn rule_too_many(line: u32, bytes: &[u8]) -> LicenceFault
     ensures { result ≡ rule_too_many line bytes.now }
 {
@@ -28,7 +30,7 @@ fn rule_too_many(line: u32, bytes: &[u8]) -> LicenceFault
     }
 }
 
-/// The rule of these parts. Its id is looked up before its path is read.
+/// The rule of a line with these parts. Its id is looked up before its path is read.
 fn rule_of_parts(
     alloc: Global,
     user: &[u8],
@@ -56,7 +58,7 @@ fn rule_of_parts(
     }
 }
 
-/// The next rule, of which the earlier ones are read.
+/// The next rule after the earlier ones, from its line.
 fn next_rule(
     alloc: Global,
     user: &[u8],
@@ -75,7 +77,7 @@ fn next_rule(
     }
 }
 
-/// Behind `end`, which has this line, stands nothing.
+/// The rules, where no line follows `end`, which has the number `line`, and the rules are within the limits.
 fn rules_at_end(
     line: u32,
     rules: Sequence<Rule>,
@@ -94,13 +96,14 @@ fn rules_at_end(
     }
 }
 
+/// Whether the line is `end`.
 fn is_end(line: &[u8]) -> bool
     ensures { result ≡ is_end line.now }
 {
     line == b"end".as_slice()
 }
 
-/// All rules that stand in these lines, of which the first has the number `first`, and the end behind them.
+/// Reads all rules in these lines, and the end after them. The first of the lines has the number `first`.
 pub fn read_rules(
     alloc: Global,
     user: &[u8],
@@ -113,14 +116,14 @@ pub fn read_rules(
     let mut rules: Vec<Rule> = Vec::new(alloc);
     let mut line = first;
     let mut rest = bytes;
-    while let Some((text, behind)) = next_line(rest) {
+    while let Some((text, after)) = next_line(rest) {
         if is_end(text) {
-            return rules_at_end(line, Sequence::from_vec(rules), behind);
+            return rules_at_end(line, Sequence::from_vec(rules), after);
         }
         let rule = next_rule(alloc, user, line, rules.as_slice(), text)?;
         rules.push(rule)?;
         line += 1;
-        rest = behind;
+        rest = after;
     }
     Err(LicenceFault::BadLicence { line })
 }

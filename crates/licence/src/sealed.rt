@@ -1,4 +1,4 @@
-//! Reads sealed licences, and seals bodies. A seal is the tag of the body under the seal key.
+//! Reads sealed licences, and seals bodies. A seal is the HMAC of the body under the seal key.
 
 ghost use Rattle.std.specs.Prelude.{◌≡◌, ◌++◌, ◌∷◌, IfOk, Some, None, MatchOption};
 ghost use Rattle.hex.specs.Hex.{encode_lower};
@@ -14,7 +14,7 @@ use acl_model::{Bytes, cut};
 use hmac_tag::hmac;
 use std::alloc::{AllocError, Global};
 
-/// Reads a sealed licence: its seal first, and its body only where the seal is right.
+/// Reads a sealed licence. The seal is checked first, and the body is read only where the seal is right.
 pub fn read_licence(
     alloc: Global,
     bytes: &[u8],
@@ -36,7 +36,7 @@ pub fn read_licence(
     read_body_from(alloc, 2, body)
 }
 
-/// The seal line of this seal, and the body.
+/// The seal line with this seal, and the body after it.
 fn sealed_text(alloc: Global, seal: &[u8; 32], body: &[u8]) -> Result<Bytes, AllocError>
     ensures { IfOk result (λ text.
         text ≡ seal_word ++ (encode_lower seal.now ++ (line_feed ∷ body.now))) }
@@ -49,7 +49,7 @@ fn sealed_text(alloc: Global, seal: &[u8; 32], body: &[u8]) -> Result<Bytes, All
     Ok(Bytes::from_vec(text))
 }
 
-/// Seals a body that can be read: its text has the seal line, and then the body's bytes as they are.
+/// Seals a body: the answer is the seal line and the body unchanged, or the first fault of a body that can't be read.
 pub fn seal_text(alloc: Global, body: &[u8], seal_key: &[u8; 32]) -> Result<Bytes, LicenceFault>
     ensures exact { Reads (sealed_text_of body.now seal_key.now) result }
 {

@@ -1,11 +1,11 @@
-//! The lines of a document or a view: a byte that tells the kind, the argument, and a line feed.
+//! Writes the lines of a document or a view. A line is a byte for its kind, its argument, and a line feed.
 
 ghost use Rattle.std.specs.Prelude.{[], ◌∷◌, map};
 ghost use Rattle.std.specs.List.{concat};
 ghost use Rattle.acl_model.specs.Ascii.{capital_a, hyphen, line_feed};
 ghost use Rattle.acl_model.specs.Ascii.{left_parenthesis, right_parenthesis};
 ghost use Rattle.acl_model.specs.Text.{line};
-ghost use Rattle.acl_outside.specs.Writing.{Writes};
+ghost use Rattle.acl_outside.specs.WrittenText.{Writes};
 ghost use Rattle.line_writer.specs.Parts.{start_text};
 
 use acl_model::Bytes;
@@ -21,7 +21,7 @@ pub fn write_start<K: Sink>(name: &[u8], sink: &mut K) -> Result<(), Failed>
     write_line(b'(', name, sink)
 }
 
-/// Writes an attribute, as it is read: its name, its type and its value.
+/// Writes a raw attribute, unchanged: its name, its type and its value.
 pub fn write_attribute<K: Sink>(raw: &[u8], sink: &mut K) -> Result<(), Failed>
     ensures written { Writes K.written K.missed K.settled K.faults result sink.old sink.new
         (line capital_a raw.now) }
@@ -29,7 +29,7 @@ pub fn write_attribute<K: Sink>(raw: &[u8], sink: &mut K) -> Result<(), Failed>
     write_line(b'A', raw, sink)
 }
 
-/// Writes attributes in their order.
+/// Writes attributes in order.
 #[tactic(auto, using(acl_outside::proofs::Remaining::chain))]
 pub fn write_attributes<K: Sink>(attributes: &[Bytes], sink: &mut K) -> Result<(), Failed>
     ensures written { Writes K.written K.missed K.settled K.faults result sink.old sink.new
@@ -41,7 +41,7 @@ pub fn write_attributes<K: Sink>(attributes: &[Bytes], sink: &mut K) -> Result<(
     Ok(())
 }
 
-/// Writes what stands before an element's items: its attributes, and then its start.
+/// Writes the lines before an element's items: its attributes, followed by its start.
 #[tactic(auto, using(acl_outside::proofs::Remaining::chain))]
 pub fn write_attributes_and_start<K: Sink>(
     attributes: &[Bytes],
@@ -71,6 +71,7 @@ pub fn write_end<K: Sink>(name: &[u8], sink: &mut K) -> Result<(), Failed>
     write_line(b')', name, sink)
 }
 
+/// Writes one line.
 fn write_line<K: Sink>(kind: u8, argument: &[u8], sink: &mut K) -> Result<(), Failed>
     ensures written { Writes K.written K.missed K.settled K.faults result sink.old sink.new
         (line kind argument.now) }
@@ -78,7 +79,7 @@ fn write_line<K: Sink>(kind: u8, argument: &[u8], sink: &mut K) -> Result<(), Fa
     write_pieces(sink, &[&[kind], argument, b"\n"])
 }
 
-// ---- lines in pieces: a beginning, then the argument by `write_piece`, then `end_line`
+// ---- lines in pieces: first the beginning, then the argument by `write_piece`, then `end_line`
 
 /// Begins the line of a text.
 pub fn begin_text<K: Sink>(sink: &mut K) -> Result<(), Failed>

@@ -1,11 +1,11 @@
-//! The lines of an explanation: the sign, the rule's id or `closed`, and the place. A place is a
+//! Writes the lines of an explanation. A line has the sign, the rule's id or `closed`, and the place. A place is a
 //! slice of numbers, or is written number by number.
 
 ghost use Rattle.std.specs.Prelude.{◌≡◌, decimal, map, ◌∷◌};
 ghost use Rattle.std.specs.List.{concat};
 ghost use Rattle.acl_model.specs.Ascii.{slash};
 ghost use Rattle.acl_model.specs.Explain.{rule_word, place_text};
-ghost use Rattle.acl_outside.specs.Writing.{Writes};
+ghost use Rattle.acl_outside.specs.WrittenText.{Writes};
 ghost use Rattle.line_writer.specs.Parts.{explanation_head, explained_line};
 
 use crate::document_lines::end_line;
@@ -13,8 +13,7 @@ use acl_model::{Rule, Sign};
 use acl_outside::{Failed, Sink, write_piece, write_pieces};
 use itoa::Buffer;
 
-/// Writes the line of an element of this place and sign. The word is the id of the rule that
-/// decides, or `closed`.
+/// Writes the line of the element with this place and sign. `word` is the id of the rule that decides, or `closed`.
 pub fn write_explanation_line<K: Sink>(
     sign: Sign,
     word: &[u8],
@@ -29,7 +28,7 @@ pub fn write_explanation_line<K: Sink>(
     end_line(sink)
 }
 
-/// The id of the rule of this number, or `closed` where no rule decides.
+/// The id of the rule with this number, or `closed` where no rule decides.
 pub fn rule_word(rules: &[Rule], number: Option<u16>) -> &[u8]
     ensures word { result.now ≡ rule_word rules.now number }
 {
@@ -42,7 +41,7 @@ pub fn rule_word(rules: &[Rule], number: Option<u16>) -> &[u8]
     }
 }
 
-/// Writes what stands before the place.
+/// Writes the part of a line before the place.
 pub fn write_explanation_head<K: Sink>(sign: Sign, word: &[u8], sink: &mut K) -> Result<(), Failed>
     ensures written { Writes K.written K.missed K.settled K.faults result sink.old sink.new
         (explanation_head sign word.now) }
@@ -53,7 +52,7 @@ pub fn write_explanation_head<K: Sink>(sign: Sign, word: &[u8], sink: &mut K) ->
     }
 }
 
-/// Writes a place, from the root down. The root's is empty, and is written as `/`.
+/// Writes a place, from the root down. The place of the root is empty, and is written as `/`.
 pub fn write_place<K: Sink>(place: &[u64], sink: &mut K) -> Result<(), Failed>
     ensures written { Writes K.written K.missed K.settled K.faults result sink.old sink.new
         (place_text place.now) }
@@ -64,6 +63,7 @@ pub fn write_place<K: Sink>(place: &[u64], sink: &mut K) -> Result<(), Failed>
     }
 }
 
+/// Writes a place other than that of the root.
 fn write_numbers<K: Sink>(numbers: &[u64], sink: &mut K) -> Result<(), Failed>
     ensures { Writes K.written K.missed K.settled K.faults result sink.old sink.new
         (concat (map (λ number. slash ∷ decimal number) numbers.now)) }

@@ -1,4 +1,4 @@
-//! Writes the lines of a document, a view or an explanation to a sink, whole or by their parts.
+//! Writes the lines of a document, a view or an explanation to a sink, whole or in parts.
 #![tactic(auto)]
 
 mod document_lines;

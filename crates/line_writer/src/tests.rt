@@ -1,4 +1,4 @@
-//! Each call once, beside the lines as this project's formats spell them.
+//! Tests of each call, with lines written out by hand in this project's formats.
 
 use super::*;
 use acl_model::{Bytes, Path, Rule, Sequence, Sign};
@@ -35,7 +35,7 @@ fn a_document_is_written_line_by_line(rt: HostRuntime) -> Result<(), Fail> {
     Ok(())
 }
 
-/// Writes an explanation's line number by number.
+/// Writes an explanation line in parts, the place number by number.
 fn write_by_parts(
     sign: Sign,
     word: &[u8],
@@ -52,7 +52,7 @@ fn write_by_parts(
     end_line(sink)
 }
 
-/// Whether an explanation's line is written so, at once and number by number.
+/// Whether an explanation line is written as `line`, both whole and in parts.
 fn is_written_as(
     alloc: Global,
     sign: Sign,

@@ -1,4 +1,4 @@
--- The enciphered stream has the length of the plain one, and its fragments are locked one by one.
+-- The enciphered stream has the length of the plain one, and its fragments are enciphered one by one.
 use Rattle.std.proofs.Common.{◌≡◌, ℕ, zero, suc, ◌+◌, ◌-◌, ◌*◌, ◌<◌, ◌≤◌, List, [], ◌∷◌, ◌++◌, length, take, drop, get_or, replicate, refl, sym, ap, ◌∙◌, arith, lit<, append_assoc, length-append}
 use Rattle.std.specs.Simd.{first_chunks}
 use Rattle.std.proofs.lemmas.List.{take_at, drop_at, take-take, drop-take, drop-drop}
@@ -7,7 +7,7 @@ use Rattle.aes_block.proofs.KeyStates.{AreBytes-cipher}
 use Rattle.position_cipher.specs.Fragments.{block_mask, each_block, locked_block}
 use Rattle.merkle_chunks.proofs.PieceLemmas.{get_or-first_chunks}
 
--- ---- a locked block has 16 bytes, whatever is locked
+-- ---- an enciphered block has 16 bytes, whatever the plain block
 
 length-xor_bytes-same : (xs zs ys : List ℕ) → length xs ≡ length zs → length (xor_bytes xs ys) ≡ length (xor_bytes zs ys)
 unfolding xor_bytes
@@ -53,7 +53,7 @@ module _ (f : ℕ → List ℕ → List ℕ) (gives : (number : ℕ) (block : Li
       length-append (f number (take 16 bytes)) (each_block f (number + 1) n (drop 16 bytes))
       ∙ omega (arith, gives number (take 16 bytes), length-each_block (number + 1) n (drop 16 bytes))
 
-  -- the first blocks, and those behind them
+  -- the first blocks, and those after them
   pub each_block-split : (number a b : ℕ) (bytes : List ℕ) → each_block f number (a + b) bytes ≡ each_block f number a bytes ++ each_block f (number + a) b (drop (16 * a) bytes)
   unfolding each_block
   each_block-split number zero b bytes =
@@ -71,14 +71,14 @@ module _ (f : ℕ → List ℕ → List ℕ) (gives : (number : ℕ) (block : Li
       ∙ (λ i. each_block f number (suc a) bytes ++ each_block f (there i) b ((drop-drop (16 * a) 16 bytes ∙ ap (λ (k : ℕ). drop k bytes) past) i))
 
   -- blocks depend on their own bytes alone
-  pub each_block-front : (number n m : ℕ) (bytes : List ℕ) → 16 * n ≤ m → each_block f number n (take m bytes) ≡ each_block f number n bytes
+  pub each_block-prefix : (number n m : ℕ) (bytes : List ℕ) → 16 * n ≤ m → each_block f number n (take m bytes) ≡ each_block f number n bytes
   unfolding each_block
-  each_block-front number zero m bytes fits = refl
-  each_block-front number (suc n) m bytes fits =
+  each_block-prefix number zero m bytes fits = refl
+  each_block-prefix number (suc n) m bytes fits =
       let split : 16 + (m - 16) ≡ m = omega arith in
       (λ i. f number (take-take 16 m bytes (omega arith) i)
       ++ each_block f (number + 1) n ((ap (λ (k : ℕ). drop 16 (take k bytes)) (sym split) ∙ drop-take 16 (m - 16) bytes) i))
-      ∙ ap (λ (l : List ℕ). f number (take 16 bytes) ++ l) (each_block-front (number + 1) n (m - 16) (drop 16 bytes) (omega arith))
+      ∙ ap (λ (l : List ℕ). f number (take 16 bytes) ++ l) (each_block-prefix (number + 1) n (m - 16) (drop 16 bytes) (omega arith))
 
   -- a fragment of all blocks has those of the fragment, numbered from its first
   pub fragment_of_blocks : (m i : ℕ) (bytes : List ℕ) → i < m
@@ -89,15 +89,15 @@ module _ (f : ℕ → List ℕ → List ℕ) (gives : (number : ℕ) (block : Li
       let here : 0 + 16 * i ≡ 16 * i = omega arith in
       let place : 256 * i ≡ 16 * (16 * i) = omega arith in
       let tail : List ℕ = drop (16 * (16 * i)) bytes in
-      let front : List ℕ = each_block f 0 (16 * i) bytes in
+      let prefix : List ℕ = each_block f 0 (16 * i) bytes in
       let later : List ℕ = each_block f (16 * i + 16) rest (drop (16 * 16) tail) in
       get_or-first_chunks 256 m i (each_block f 0 (16 * m) bytes) lt
       ∙ ap (λ (k : ℕ). take 256 (drop (256 * i) (each_block f 0 k bytes))) split
       ∙ ap (λ (l : List ℕ). take 256 (drop (256 * i) l)) (each_block-split 0 (16 * i) (16 + rest) bytes)
-      ∙ ap (take 256) (drop_at front (each_block f (0 + 16 * i) (16 + rest) tail) (256 * i) (length-each_block 0 (16 * i) bytes ∙ sym place))
+      ∙ ap (take 256) (drop_at prefix (each_block f (0 + 16 * i) (16 + rest) tail) (256 * i) (length-each_block 0 (16 * i) bytes ∙ sym place))
       ∙ ap (λ (k : ℕ). take 256 (each_block f k (16 + rest) tail)) here
       ∙ ap (take 256) (each_block-split (16 * i) 16 rest tail)
       ∙ take_at (each_block f (16 * i) 16 tail) later 256 (length-each_block (16 * i) 16 tail)
-      ∙ sym (each_block-front (16 * i) 16 256 tail (omega arith))
+      ∙ sym (each_block-prefix (16 * i) 16 256 tail (omega arith))
       ∙ ap (λ (k : ℕ). each_block f (16 * i) 16 (take 256 (drop k bytes))) (sym place)
       ∙ ap (each_block f (16 * i) 16) (sym (get_or-first_chunks 256 m i bytes lt))

@@ -1,4 +1,4 @@
--- How many digests stand on each level of a table, and which level is its top.
+-- How many digests each level of a table has, and which level is its top.
 use Rattle.std.proofs.Common.{◌≡◌, ℕ, zero, suc, ◌+◌, ◌-◌, ◌*◌, ◌/◌, ◌^◌, ◌<◌, ◌≤◌, Bool, inl, inr, refl, sym, ap, ◌∙◌, subst, arith, add-one}
 use Rattle.std.specs.Prelude.{if◌then◌else◌}
 use Rattle.std.specs.Int.{div_ceil}
@@ -28,7 +28,7 @@ pub count_below-rest : (n l : ℕ) → count_below n (suc l) ≡ n + count_below
 count_below-rest n zero = omega arith
 count_below-rest n (suc l) = omega (arith, count_below-rest n l, level_count-rest n l)
 
--- twice a level and what is below it is hardly more than twice the fragments
+-- twice a level and the levels below it are at most twice the fragments and the number of the level
 pub counts-le : (n l : ℕ) → count_below n l + 2 * level_count n l ≤ 2 * n + l
 counts-le n zero = omega arith
 counts-le n (suc l) = omega (arith, counts-le n l)
@@ -50,7 +50,7 @@ halvings-many most c many =
       | inr p ↦ ap (λ (b : Bool). if b then 0 else suc (halvings most ((c + 1) / 2))) p.0
     ]
 
--- that more than enough are allowed changes nothing
+-- a greater bound on the number of halvings changes nothing
 pub halvings-enough : (most more c : ℕ) → c ≤ most + 1 → c ≤ more + 1 → halvings most c ≡ halvings more c
 halvings-enough zero more c fits also = sym (halvings-few more c (omega arith))
 halvings-enough (suc most) zero c fits also = halvings-few (suc most) c (omega arith)

@@ -1,4 +1,4 @@
--- The file of a document under a key: where its parts stand, and how they are enciphered.
+-- The file of a document under a key: the offsets of its parts, and how they are enciphered.
 use Rattle.std.proofs.Common.{refl, ◌≡◌, ℕ, ◌+◌, ◌-◌, ◌*◌, ◌/◌, ◌%◌, ◌<◌, ◌≤◌, List, [], ◌∷◌, ◌++◌, length, take, drop, get_or, replicate, sym, ap, ◌∙◌, arith, length-append}
 use Rattle.std.specs.Prelude.{Some}
 use Rattle.std.specs.List.{concat, slice_get}
@@ -42,7 +42,7 @@ length-fragments bytes = length-first_chunks 256 (length bytes / 256) bytes
 joined_fragments : (bytes : List ℕ) → length bytes % 256 ≡ 0 → concat (fragments bytes) ≡ bytes
 joined_fragments bytes whole = concat-first_chunks 256 (length bytes / 256) bytes ∙ take_all (256 * (length bytes / 256)) bytes (omega arith)
 
--- a whole fragment is reached by less than a fragment of zeros
+-- filled up with zeros, bytes have the length of whole fragments
 length-filled_fragments : (bytes : List ℕ) → length (filled_fragments bytes) ≡ 256 * ((length bytes + 255) / 256)
 length-filled_fragments bytes =
     length-append bytes (replicate ((256 - length bytes % 256) % 256) 0)
@@ -61,7 +61,7 @@ module _ (d : Doc) (key : List ℕ) where
       length-filled_fragments (dictionary_section (dictionary d) ++ tree_section d)
       ∙ omega (arith, length-append (dictionary_section (dictionary d)) (tree_section d))
 
-  -- ---- places
+  -- ---- offsets
 
   pub header_of_file : take 64 (file d key) ≡ header_bytes (document_header d key)
   unfolding file header
@@ -85,7 +85,7 @@ module _ (d : Doc) (key : List ℕ) where
   unfolding file header
   digest_of_file = digest_in_file sha256 length-sha256 header (cipher_fragments d key) long (sized-fragments (cipher_stream d key))
 
-  -- the root is that of the header and of the digest at the top's place
+  -- the root is that of the header and of the digest at the top's offset
   pub root_of_file : 1 ≤ length (cipher_fragments d key)
       → file_root d key ≡ sha256 (root_string (take 64 (file d key)) (take 32 (drop (node_place (length (cipher_fragments d key)) (top_level (length (cipher_fragments d key))) 0) (file d key))))
   unfolding file_root root_digest top_digest header
@@ -153,7 +153,7 @@ module _ (d : Doc) (key : List ℕ) where
     unfolding file file_bytes
     file_is = ap (λ (cipher : List ℕ). header_bytes (document_header d key) ++ (cipher ++ table_bytes (table_levels sha256 (cipher_fragments d key)))) cipher_fragments-joined
 
-    -- bytes of which each fragment is the locked one are the enciphered stream
+    -- bytes are the enciphered stream where each fragment of them is the enciphered one
     pub cipher_stream-made : (cipher : List ℕ) → length cipher ≡ length (plain d)
         → ((i : ℕ) → i < length (fragments (plain d)) → get_or (fragments cipher) i [] ≡ locked_fragment key i (get_or (fragments (plain d)) i []))
         → cipher ≡ cipher_stream d key

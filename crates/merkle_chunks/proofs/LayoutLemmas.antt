@@ -1,4 +1,4 @@
--- Where the parts of a file stand.
+-- The offsets of the parts of a file.
 use Rattle.std.proofs.Common.{◌≡◌, ℕ, suc, ◌+◌, ◌*◌, ◌<◌, List, [], ◌++◌, length, take, drop, get_or, sym, ap, ◌∙◌, arith, length-append, length-drop}
 use Rattle.std.specs.Prelude.{Some}
 use Rattle.std.specs.List.{concat, slice_get}
@@ -37,17 +37,17 @@ module _ (hash : List ℕ → List ℕ) (wide : (string : List ℕ) → length (
   body : List ℕ
   body = concat fragments ++ table_bytes (table_levels hash fragments)
 
-  -- what stands behind the header
-  behind_header : (m : ℕ) → drop (64 + m) (file_bytes hash header fragments) ≡ drop m body
+  -- what follows the header
+  after_header : (m : ℕ) → drop (64 + m) (file_bytes hash header fragments) ≡ drop m body
   unfolding file_bytes body
-  behind_header m =
+  after_header m =
       ap (λ (k : ℕ). drop (k + m) (header ++ (concat fragments ++ table_bytes (table_levels hash fragments)))) (sym long)
       ∙ drop-append-add header (concat fragments ++ table_bytes (table_levels hash fragments)) m
 
-  -- what stands behind the fragments
-  behind_fragments : (m : ℕ) → drop (256 * n + m) body ≡ drop m (concat all)
+  -- what follows the fragments
+  after_fragments : (m : ℕ) → drop (256 * n + m) body ≡ drop m (concat all)
   unfolding body n
-  behind_fragments m =
+  after_fragments m =
       ap (λ (k : ℕ). drop (k + m) (concat fragments ++ table_bytes (table_levels hash fragments))) (sym (length-concat 256 fragments sized))
       ∙ drop-append-add (concat fragments) (table_bytes (table_levels hash fragments)) m
       ∙ ap (drop m) table_is
@@ -73,12 +73,12 @@ module _ (hash : List ℕ → List ℕ) (wide : (string : List ℕ) → length (
   pub fragment_in_file : (i : ℕ) → i < length fragments → take 256 (drop (64 + 256 * i) (file_bytes hash header fragments)) ≡ get_or fragments i []
   unfolding body
   fragment_in_file i lt =
-      ap (take 256) (behind_header (256 * i) ∙ drop-append-le (256 * i) (concat fragments) (table_bytes (table_levels hash fragments)) (omega (arith, length-concat 256 fragments sized)))
+      ap (take 256) (after_header (256 * i) ∙ drop-append-le (256 * i) (concat fragments) (table_bytes (table_levels hash fragments)) (omega (arith, length-concat 256 fragments sized)))
       ∙ take-append-le 256 (drop (256 * i) (concat fragments)) (table_bytes (table_levels hash fragments))
       (omega (arith, length-drop (256 * i) (concat fragments), length-concat 256 fragments sized))
       ∙ piece_at 256 i fragments sized lt
 
-  -- the digest at the place of a node
+  -- the digest at the offset of a node
   pub digest_in_file : (l k : ℕ) → IsNode (length fragments) l k
       → take 32 (drop (node_place (length fragments) l k) (file_bytes hash header fragments)) ≡ get_or (digests_at hash fragments l) k []
   unfolding n all
@@ -88,7 +88,7 @@ module _ (hash : List ℕ → List ℕ) (wide : (string : List ℕ) → length (
       let within : count_below (length fragments) l + k < length all =
       omega (arith, count_all, node.within, count_below-le (length fragments) (suc l) (suc (top_level (length fragments))) (omega arith)) in
       ap (λ (m : ℕ). take 32 (drop m (file_bytes hash header fragments))) place
-      ∙ ap (take 32) (behind_header (256 * length fragments + 32 * (count_below (length fragments) l + k)) ∙ behind_fragments (32 * (count_below (length fragments) l + k)))
+      ∙ ap (take 32) (after_header (256 * length fragments + 32 * (count_below (length fragments) l + k)) ∙ after_fragments (32 * (count_below (length fragments) l + k)))
       ∙ piece_at 32 (count_below (length fragments) l + k) all sized_all within
       ∙ digest_at (length fragments) (digests_at hash fragments) (length-digests_at hash fragments) l (top_level (length fragments) + 1) k low node.within
 

@@ -1,4 +1,4 @@
--- Levels, one behind the other: where each one and each of its digests stands among the digests of a whole table.
+-- Levels, one after the other: the index of each level and of each of its digests among the digests of a whole table.
 use Rattle.std.proofs.Common.{◌≡◌, ℕ, zero, suc, ◌+◌, ◌*◌, ◌/◌, ◌<◌, ◌≤◌, inl, inr, List, [], ◌∷◌, ◌++◌, length, map, take, drop, get_or, refl, sym, ap, ◌∙◌, arith, length-append, length-drop}
 use Rattle.std.specs.Prelude.{Some, None}
 use Rattle.std.specs.List.{concat, flat_map, range_with_len, slice_get}
@@ -11,7 +11,7 @@ use Rattle.std.proofs.lemmas.List.Folds.{concat-append}
 use Rattle.std.proofs.lemmas.List.FromFn.{length-map-range_with_len}
 use Rattle.std.proofs.Math.Seq.{take-add}
 use Rattle.merkle_chunks.specs.Table.{level_count, count_below, top_level, digest_count, each_level, table_bytes, node_of}
-use Rattle.merkle_chunks.specs.Levels.{digests_in, levels_in}
+use Rattle.merkle_chunks.specs.inside.LevelBytes.{digests_in, levels_in}
 use Rattle.merkle_chunks.proofs.PieceLemmas.{AreSized, length-first_chunks, concat-first_chunks, get_or-first_chunks, digests_in-concat}
 
 -- ---- ranges
@@ -79,7 +79,7 @@ module _ (n : ℕ) (f : ℕ → List (List ℕ)) (many : (l : ℕ) → length (f
       ∙ length-append (digests_below f m) (f m)
       ∙ (λ i. length-digests_below m i + many m i)
 
-  -- a level stands behind those below it
+  -- a level follows those below it
   pub level_at : (l m : ℕ) → l < m → take (level_count n l) (drop (count_below n l) (digests_below f m)) ≡ f l
   level_at l zero lt = absurd (omega arith)
   level_at l (suc m) lt =
@@ -99,7 +99,7 @@ module _ (n : ℕ) (f : ℕ → List (List ℕ)) (many : (l : ℕ) → length (f
             ∙ level_at l m p.1
       ]
 
-  -- and so each of its digests stands behind those before it
+  -- and so each of its digests follows those before it
   pub digest_at : (l m k : ℕ) → l < m → k < level_count n l → get_or (digests_below f m) (count_below n l + k) [] ≡ get_or (f l) k []
   digest_at l m k low lt =
       sym (get_or-drop (count_below n l) (digests_below f m) k [])
@@ -132,7 +132,7 @@ module _ (n : ℕ) (bytes : List ℕ) (long : length bytes ≡ 32 * digest_count
   enough : (l : ℕ) → l ≤ top_level n → count_below n l + level_count n l ≤ digest_count n
   enough l low = count_below-le n (suc l) (suc (top_level n)) (omega arith)
 
-  -- a node lies within the bytes
+  -- a node is within the bytes
   pub node_within : (l k : ℕ) → l ≤ top_level n → k < level_count n l → 32 * (count_below n l + k) + 32 ≤ length bytes
   node_within l k low lt = omega (arith, enough l low)
 
@@ -140,7 +140,7 @@ module _ (n : ℕ) (bytes : List ℕ) (long : length bytes ≡ 32 * digest_count
   unfolding levels_in on_level
   length-levels_in = length-map-range_with_len on_level 0 (top_level n + 1)
 
-  -- the digest at a level and an index is that of the bytes at its place
+  -- the digest at a level and an index is the bytes at its offset
   pub node_at : (l k : ℕ) → l ≤ top_level n → k < level_count n l
       → node_of (levels_in n bytes) l k ≡ Some (take 32 (drop (32 * (count_below n l + k)) bytes))
   unfolding levels_in on_level
@@ -170,12 +170,12 @@ module _ (n : ℕ) (bytes : List ℕ) (long : length bytes ≡ 32 * digest_count
       ap (option_and_then (λ digests. slice_get digests k)) (slice_get_past (levels_in n bytes) l (omega (arith, length-levels_in)))
 
   -- the bytes are those of the levels
-  front_part : (m : ℕ) → count_below n m ≤ digest_count n → digests_below on_level m ≡ take (count_below n m) (digests_in bytes)
+  part_prefix : (m : ℕ) → count_below n m ≤ digest_count n → digests_below on_level m ≡ take (count_below n m) (digests_in bytes)
   unfolding on_level
-  front_part zero fits = refl
-  front_part (suc m) fits =
+  part_prefix zero fits = refl
+  part_prefix (suc m) fits =
       digests_below-more on_level m
-      ∙ ap (λ (digests : List (List ℕ)). digests ++ on_level m) (front_part m (omega arith))
+      ∙ ap (λ (digests : List (List ℕ)). digests ++ on_level m) (part_prefix m (omega arith))
       ∙ sym (take-add (count_below n m) (level_count n m) (digests_in bytes))
 
   pub table_bytes-levels_in : table_bytes (levels_in n bytes) ≡ bytes
@@ -183,7 +183,7 @@ module _ (n : ℕ) (bytes : List ℕ) (long : length bytes ≡ 32 * digest_count
   table_bytes-levels_in =
       let one : top_level n + 1 ≡ suc (top_level n) = omega arith in
       table_bytes-each_level n on_level
-      ∙ ap concat (ap (digests_below on_level) one ∙ front_part (suc (top_level n)) (omega arith)
+      ∙ ap concat (ap (digests_below on_level) one ∙ part_prefix (suc (top_level n)) (omega arith)
       ∙ take_all (digest_count n) (digests_in bytes) (omega (arith, count_all)))
       ∙ concat-first_chunks 32 (length bytes / 32) bytes
       ∙ take_all (32 * (length bytes / 32)) bytes (omega arith)

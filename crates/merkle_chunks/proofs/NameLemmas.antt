@@ -1,4 +1,4 @@
--- Each string of a file stands at a place of its own, and its name tells which: so no two have the same name.
+-- Each string of a file has its own index among all strings, which its name determines. So no two have the same name.
 use Rattle.std.proofs.Common.{◌≡◌, ℕ, zero, suc, ◌+◌, ◌-◌, ◌<◌, ◌≤◌, inl, inr, List, [], ◌∷◌, ◌++◌, length, get_or, sym, ap, ◌∙◌, arith, add-one}
 use Rattle.std.specs.Prelude.{Some}
 use Rattle.std.specs.List.{flat_map, range_with_len, slice_get}
@@ -9,12 +9,12 @@ use Rattle.merkle_chunks.proofs.CountLemmas.{count_below-more}
 use Rattle.merkle_chunks.proofs.TableLemmas.{length-strings_at}
 use Rattle.merkle_chunks.proofs.LevelLemmas.{count_below-le}
 
--- where the string of a name stands among all strings over n fragments: the root string first, then those of each level
+-- the index of a name's string among all strings over n fragments: the root string is first, then those of each level
 abbrev pub name_place : ℕ → StringName → ℕ
 name_place n (spot level index) = 1 + (count_below n level + index)
 name_place n root = 0
 
--- a named string stands where its name says, from the first string of its level on
+-- a named string is at the index that its name gives, counted from the first string of its level
 module _ (n level : ℕ) where
   in_level : (i : ℕ) (strings : List (List ℕ)) (more : List (StringName × List ℕ)) (p : ℕ) (s : StringName × List ℕ)
       → ((q : ℕ) → slice_get more q ≡ Some s → name_place n s.0 ≡ 1 + (count_below n level + i + length strings + q))
@@ -33,7 +33,7 @@ module _ (n level : ℕ) where
       let there : i + 1 + k ≡ i + suc k = omega arith in
       at_index (i + 1) strings more k (omega arith) ∙ ap (λ (m : ℕ). Some (spot level m, get_or strings k [])) there
 
-  -- what stands behind a level
+  -- what follows a level
   past_level : (i : ℕ) (strings : List (List ℕ)) (more : List (StringName × List ℕ)) (p : ℕ)
       → slice_get (named_strings level i strings ++ more) (length strings + p) ≡ slice_get more p
   past_level i [] more p = let none : 0 + p ≡ p = omega arith in ap (slice_get more) none
@@ -74,22 +74,22 @@ module _ (hash : List ℕ → List ℕ) (fragments : List (List ℕ)) where
         | inr q ↦
             let next : count_below (length fragments) (from + 1) ≡ count_below (length fragments) from + level_count (length fragments) from = count_below-more (length fragments) from in
             let past : count_below (length fragments) (from + 1) ≤ count_below (length fragments) l = count_below-le (length fragments) (from + 1) l (omega (arith, q.1)) in
-            let behind : p ≡ length (strings_at hash fragments from) + (p - length (strings_at hash fragments from)) = omega (arith, length-strings_at hash fragments from) in
-            ap (slice_get (level_strings from (suc many))) behind
+            let after : p ≡ length (strings_at hash fragments from) + (p - length (strings_at hash fragments from)) = omega (arith, length-strings_at hash fragments from) in
+            ap (slice_get (level_strings from (suc many))) after
             ∙ past_level (length fragments) from 0 (strings_at hash fragments from) (level_strings (from + 1) many) (p - length (strings_at hash fragments from))
             ∙ at_place (from + 1) many l k (p - length (strings_at hash fragments from)) (omega (arith, q.1)) (omega arith) lt (omega (arith, length-strings_at hash fragments from))
       ]
 
-  -- the string of a node stands where its name says
+  -- the string of a node is at the index that its name gives
   pub string_at_place : (header : List ℕ) (l k : ℕ) → IsNode (length fragments) l k
       → slice_get (all_strings hash header fragments) (1 + (count_below (length fragments) l + k)) ≡ Some (spot l k, get_or (strings_at hash fragments l) k [])
   unfolding all_strings
   string_at_place header l k node =
-      let behind : 1 + (count_below (length fragments) l + k) ≡ suc (count_below (length fragments) l + k) = omega arith in
-      ap (slice_get (all_strings hash header fragments)) behind
+      let after : 1 + (count_below (length fragments) l + k) ≡ suc (count_below (length fragments) l + k) = omega arith in
+      ap (slice_get (all_strings hash header fragments)) after
       ∙ at_place 0 (top_level (length fragments) + 1) l k (count_below (length fragments) l + k) (omega arith) (omega (arith, node.on_level)) node.within (omega arith)
 
-  -- each string stands where its name says
+  -- each string is at the index that its name gives
   pub name_place_of : (header : List ℕ) (p : ℕ) (s : StringName × List ℕ) → slice_get (all_strings hash header fragments) p ≡ Some s → name_place (length fragments) s.0 ≡ p
   unfolding all_strings
   name_place_of header zero s found = let is : (root, root_string header (top_digest hash fragments)) ≡ s = cc in ap (λ (t : StringName × List ℕ). name_place (length fragments) t.0) (sym is)

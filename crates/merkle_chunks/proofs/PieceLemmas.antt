@@ -6,7 +6,7 @@ use Rattle.std.proofs.Math.Seq.{take-append-add, drop-append-add, take-nil, drop
 use Rattle.std.proofs.lemmas.List.{take_at, drop_at, take_more, length-take-le, drop-drop}
 use Rattle.std.proofs.lemmas.List.Folds.{concat-append}
 use Rattle.std.proofs.lemmas.Slice.{take-put_mid}
-use Rattle.merkle_chunks.specs.Levels.{digests_in, width}
+use Rattle.merkle_chunks.specs.inside.LevelBytes.{digests_in, width}
 use borrow.Rule.Slice.PartMut.{put_mid}
 
 -- each piece has the size
@@ -49,7 +49,7 @@ drop-concat size (suc k) (piece ∷ pieces) sized =
     ∙ drop-append-add piece (concat pieces) (size * k)
     ∙ drop-concat size k pieces sized.1
 
--- the piece at an index stands behind those before it
+-- the piece at an index follows those before it
 pub piece_at : (size k : ℕ) (pieces : List (List ℕ)) → AreSized size pieces → k < length pieces → take size (drop (size * k) (concat pieces)) ≡ get_or pieces k []
 piece_at size k [] sized lt = absurd (omega arith)
 piece_at size zero (piece ∷ pieces) sized lt =
@@ -71,7 +71,7 @@ sized-first_chunks size zero bytes fits = tt
 sized-first_chunks size (suc k) bytes fits =
     (length-take-le size bytes (omega arith), sized-first_chunks size k (drop size bytes) (omega (arith, length-drop size bytes)))
 
--- what is cut off piece by piece is the front part
+-- the pieces that are cut off, joined, are a prefix
 pub concat-first_chunks : (size k : ℕ) (bytes : List ℕ) → concat (first_chunks size k bytes) ≡ take (size * k) bytes
 concat-first_chunks size zero bytes = let none : size * 0 ≡ 0 = omega arith in ap (λ (n : ℕ). take n bytes) (sym none)
 concat-first_chunks size (suc k) bytes =
@@ -109,7 +109,7 @@ digests_in-concat digests sized =
 
 -- ---- written one after the other
 
--- one more piece is written behind those that are
+-- one more piece is written after those that are
 pub written_more : (size k n : ℕ) (pieces : List (List ℕ)) (bytes piece : List ℕ) → n ≡ size → k < length pieces → length piece ≡ size
     → size * k ≤ length bytes → piece ≡ get_or pieces k [] → take (size * k) bytes ≡ concat (take k pieces)
     → take (size * (k + 1)) (put_mid (size * k) n bytes piece) ≡ concat (take (k + 1) pieces)

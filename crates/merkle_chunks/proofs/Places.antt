@@ -1,4 +1,4 @@
--- The numbers at their places in a header's bytes are the header's.
+-- The numbers at the offsets of a header's fields are those of the header.
 use Rattle.std.proofs.Common.{◌≡◌, ℕ, List, [], ◌∷◌, ◌++◌, take, drop, get_or, replicate, ap, sym, subst, ◌∙◌, refl, arith}
 use Rattle.std.specs.Int.{w16, w32, w64, from_be_bytes}
 use Rattle.std.proofs.Math.Seq.{take-append_seam}
@@ -6,7 +6,7 @@ use Rattle.std.proofs.lemmas.Nat.{from_be_bytes-to_be_bytes_2, from_be_bytes-to_
 use Rattle.merkle_chunks.specs.HeaderBytes.{IsInRange, header_bytes}
 use Rattle.merkle_chunks.specs.declared.header.Header.{Header}
 
--- the numbers that stand at the places of a header's
+-- the numbers at the offsets of a header's fields
 abbrev pub tree_in : List ℕ → ℕ
 tree_in bytes = from_be_bytes w64 (get_or bytes 8 0 ∷ get_or bytes 9 0 ∷ get_or bytes 10 0 ∷ get_or bytes 11 0 ∷ get_or bytes 12 0 ∷ get_or bytes 13 0 ∷ get_or bytes 14 0 ∷ get_or bytes 15 0 ∷ [])
 
@@ -22,7 +22,7 @@ depth_in bytes = from_be_bytes w16 (get_or bytes 22 0 ∷ get_or bytes 23 0 ∷ 
 abbrev pub check_in : List ℕ → List ℕ
 check_in bytes = take 16 (drop 24 bytes)
 
--- in the bytes of a header they are the header's
+-- in the bytes of a header they are those of the header
 pub tree_in-header : (h : Header) (bytes : List ℕ) → IsInRange h → header_bytes h ≡ bytes → tree_in bytes ≡ h.tree
 tree_in-header h bytes range same = ap tree_in (sym same) ∙ from_be_bytes-to_be_bytes_8 h.tree (omega (arith, range.together))
 

@@ -51,9 +51,9 @@ element_starts_names e inside good =
     let few = nat_le (length e.attributes) 65535 in
     let raw = list_all is_raw_attribute e.attributes in
     let items = list_all (λ b. b) (map (item_well_formed is_name) e.items) in
-    let front = first_so (own && few && raw) items form in
+    let prefix = first_so (own && few && raw) items form in
     ap (list_all is_name) (start_names_is e)
-    ∙ rw (first_so own few (first_so (own && few) raw front), inside (second_so (own && few && raw) items form)) refl
+    ∙ rw (first_so own few (first_so (own && few) raw prefix), inside (second_so (own && few && raw) items form)) refl
 
 item_starts_names : (y : Item-F ((item : Item) × ItemStartsNames item) ((e : Element) × StartsNames e))
     → ItemStartsNames (roll-Item (map-Item ((item : Item) × ItemStartsNames item) ((e : Element) × StartsNames e) Item Element (λ p. p.0) (λ p. p.0) y))
@@ -70,7 +70,7 @@ one_joined : (names : List (List ℕ)) (name : List ℕ) (there : Bool) → has_
 one_joined names name true is good own = ap (list_all is_name) (with_name-there names name is) ∙ good
 one_joined names name false is good own = ap (list_all is_name) (with_name-new names name is) ∙ list_all-append is_name names (name ∷ []) ∙ rw (good, own) refl
 
--- a name that joins is a name, and so are those that were there
+-- names with more names added are names
 names_joined : (names more : List (List ℕ)) → list_all is_name names ≡ true → list_all is_name more ≡ true → list_all is_name (with_names names more) ≡ true
 names_joined names [] good others = good
 names_joined names (name ∷ more) good others =
@@ -82,7 +82,7 @@ names_of_document d good = names_joined [] (start_names d.root) refl (names_star
 
 -- ---- its dictionary section
 
--- a name has at least one byte, and one more spells its length
+-- a name has at least one byte, and one more for its length
 section_long : (names : List (List ℕ)) → list_all is_name names ≡ true → 2 * length names ≤ length (concat (map spelled_name names))
 section_long [] good = omega arith
 section_long ([] ∷ names) good = absurd (true≢false (sym (first_so false (list_all is_name names) good)))

@@ -1,4 +1,4 @@
--- The plain stream of a document is bytes, and so are its fragments.
+-- The plain stream of a document consists of bytes, and so do its fragments.
 use Rattle.std.proofs.Common.{◌≡◌, ℕ, zero, suc, ◌+◌, ◌-◌, ◌*◌, ◌/◌, ◌%◌, ◌^◌, ◌<◌, ◌≤◌, Bool, true, false, ◌&&◌, nat_le, nat_lt, List, [], ◌∷◌, ◌++◌, map, length, take, drop, get_or, replicate, refl, ap, sym, ◌∙◌, subst, arith, lit<}
 use Rattle.std.specs.Cmp.{first_so, second_so}
 use Rattle.std.specs.Int.{byte_at, bytes_high_first, w16, w32, to_be_bytes}
@@ -11,7 +11,7 @@ use Rattle.acl_model.specs.Names.{is_name}
 use Rattle.acl_model.specs.Lines.{lacks, is_within_line}
 use Rattle.acl_model.specs.Ascii.{line_feed}
 use Rattle.acl_model.specs.Document.{is_raw_attribute, is_well_formed, item_well_formed, height, is_document}
-use Rattle.acl_model.specs.Bits.{number_after, filled_bits, first_bytes, bytes_of}
+use Rattle.acl_model.specs.StreamBits.{number_after, filled_bits, first_bytes, bytes_of}
 use Rattle.acl_model.specs.Width.{least_width}
 use Rattle.acl_model.specs.Dictionary.{dictionary, dictionary_section, spelled_name}
 use Rattle.acl_model.specs.Stream.{Segment, attribute, head_end, finish, measured_bytes, bytes_of_segments, size, head_bits, Part, Branch, text_part, element_part, part_segments, content_at, content_width, numbers_in, numbers_with, tag_of, branch_of, part_of, tree_at, tree_segments, tree_section, plain}
@@ -82,11 +82,11 @@ measured-bytes bytes are = are_bytes-append (to_be_bytes w32 (length bytes)) byt
 
 -- ---- segments
 
--- segments one behind the other
+-- segments one after the other
 segments-append : (xs ys : List Segment) → are_bytes (bytes_of_segments xs) ≡ true → are_bytes (bytes_of_segments ys) ≡ true → are_bytes (bytes_of_segments (xs ++ ys)) ≡ true
 segments-append xs ys one two = ap are_bytes (bytes_of_segments-append xs ys) ∙ are_bytes-append (bytes_of_segments xs) (bytes_of_segments ys) one two
 
--- A part of a content is bytes.
+-- A part of a content consists of bytes.
 abbrev part_is_bytes : Part → Bool
 part_is_bytes (text_part bytes) = are_bytes bytes
 part_is_bytes (element_part b) = are_bytes (bytes_of_segments b.content)
@@ -142,11 +142,11 @@ module _ (names : List (List ℕ)) where
       let few = nat_le (length e.attributes) 65535 in
       let raw = list_all is_raw_attribute e.attributes in
       let items = list_all (λ b. b) (map (item_well_formed is_name) e.items) in
-      let front = first_so (own && few && raw) items form in
+      let prefix = first_so (own && few && raw) items form in
       ap (λ (b : Branch). are_bytes (bytes_of_segments b.content)) (branch_of_is names e)
       ∙ content-bytes (tag_of names e.name) (numbers_in (map (part_of names) e.items)) e.attributes (map (part_of names) e.items)
       (content_width (tag_of names e.name) (numbers_in (map (part_of names) e.items)) e.attributes (map (part_of names) e.items))
-      (second_so (own && few) raw front) (inside (second_so (own && few && raw) items form))
+      (second_so (own && few) raw prefix) (inside (second_so (own && few && raw) items form))
 
   item-bytes : (y : Item-F ((item : Item) × ItemIsBytes item) ((e : Element) × ElementIsBytes e))
       → ItemIsBytes (roll-Item (map-Item ((item : Item) × ItemIsBytes item) ((e : Element) × ElementIsBytes e) Item Element (λ p. p.0) (λ p. p.0) y))
@@ -217,7 +217,7 @@ fragment-bytes bytes i are lt =
       fit = each_fits (get_or (fragments bytes) i []) (ap are_bytes here ∙ bytes-take 256 (drop (256 * i) bytes) (bytes-drop (256 * i) bytes are));
     }
 
--- so unlocking a fragment of a document's file gives that of its plain stream
+-- so deciphering a fragment of a document's file gives that of its plain stream
 pub fragment_unlocks : (d : Doc) (key : List ℕ) (i : ℕ) → is_document d ≡ true → AreBytes 16 key → i < length (cipher_fragments d key)
     → unlocked_fragment key i (get_or (cipher_fragments d key) i []) ≡ get_or (fragments (plain d)) i []
 fragment_unlocks d key i good is_key lt =

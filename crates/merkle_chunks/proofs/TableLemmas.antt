@@ -1,10 +1,10 @@
--- The levels of a table: how long they are, and where each digest stands.
+-- The levels of a table: their lengths, and the index of each digest.
 use Rattle.std.proofs.Common.{◌≡◌, ℕ, zero, suc, ◌+◌, ◌*◌, ◌/◌, ◌<◌, List, [], ◌∷◌, length, map, get_or, refl, sym, ap, ◌∙◌, arith, add-one}
 use Rattle.std.specs.List.{flat_map, range_with_len}
 use Rattle.std.proofs.lemmas.List.{length-map, get_or-map}
 use Rattle.merkle_chunks.specs.Strings.{leaf_string, leaf_strings, node_string, node_strings, absent_child}
 use Rattle.merkle_chunks.specs.Table.{IsNode, level_count, top_level, strings_at, digests_at, table_levels, top_digest}
-use Rattle.merkle_chunks.specs.Levels.{parents, level_above, levels_above}
+use Rattle.merkle_chunks.specs.inside.LevelBytes.{parents, level_above, levels_above}
 use Rattle.merkle_chunks.proofs.PieceLemmas.{AreSized, AreSized-append}
 
 -- ---- strings
@@ -25,7 +25,7 @@ length-node_strings [] = omega arith
 length-node_strings (last ∷ []) = omega arith
 length-node_strings (left ∷ right ∷ digests) = omega (arith, length-node_strings digests)
 
--- the string of a node has the two digests below it
+-- the string of a node contains the two digests below it
 pub get_or-node_strings : (digests : List (List ℕ)) (k : ℕ) → 2 * k < length digests
     → get_or (node_strings digests) k [] ≡ node_string (get_or digests (2 * k) []) (get_or digests (2 * k + 1) absent_child)
 get_or-node_strings [] k lt = absurd (omega arith)

@@ -7,7 +7,7 @@ use Rattle.sha2.specs.Sha256.{sha256}
 use Rattle.sha2.proofs.Facts256.{length-sha256}
 use Rattle.merkle_chunks.specs.Strings.{leaf_string, leaf_strings, node_string, node_strings, absent_child}
 use Rattle.merkle_chunks.specs.Table.{top_level, digest_count, fragments, table_bytes, strings_at, digests_at, table_levels, top_digest}
-use Rattle.merkle_chunks.specs.Levels.{digests_in, parents, level_above, levels_above, levels_in, width}
+use Rattle.merkle_chunks.specs.inside.LevelBytes.{digests_in, parents, level_above, levels_above, levels_in, width}
 use Rattle.merkle_chunks.proofs.CountLemmas.{top_level-few, top_level-many, digest_count-one, digest_count-many}
 use Rattle.merkle_chunks.proofs.PieceLemmas.{length-first_chunks, get_or-first_chunks, width-concat, digests_in-concat, written_more}
 use Rattle.merkle_chunks.proofs.TableLemmas.{length-leaf_strings, get_or-leaf_strings, length-parents, get_or-parents, table_levels-is, top_digest-is, sized-digests, sized-levels, length-digests_at}

@@ -2,5 +2,5 @@ pub mod Layout
 pub mod HeaderBytes
 pub mod Strings
 pub mod Table
-pub mod Levels
 pub mod File
+pub mod inside

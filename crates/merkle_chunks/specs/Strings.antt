@@ -1,10 +1,10 @@
--- The strings that are hashed for a file, and their names. This project's format.
+-- The strings that are hashed for a file, and their names. Defined by this project.
 use Rattle.std.specs.Prelude.{ℕ, ◌+◌, List, [], ◌∷◌, ◌++◌, replicate}
 use Rattle.std.specs.Int.{w64, to_be_bytes}
 use Rattle.merkle_chunks.specs.Layout.{digest_len}
 
--- The name of a string: where it stands in the table, by its level and its index there, both from 0; or it is that of the
--- root. The leaf of a fragment stands on level 0, and nodes stand on the levels above it.
+-- The name of a string: its level in the table and its index on that level, both from 0, or that it is the root string.
+-- Level 0 has the leaf strings of the fragments, and the levels above it have the node strings.
 pub data StringName : Type 0 where
   spot : (level : ℕ) → (index : ℕ) → StringName
   root : StringName
@@ -13,7 +13,7 @@ pub data StringName : Type 0 where
 abbrev pub leaf : ℕ → StringName
 leaf index = spot 0 index
 
--- the leaf string of a fragment: the byte 0, its index in eight bytes, the highest first, and its cipher bytes
+-- the leaf string of a fragment: the byte 0, its index in eight bytes (big-endian), and its enciphered bytes
 abbrev pub leaf_string : ℕ → List ℕ → List ℕ
 leaf_string index cipher = 0 ∷ (to_be_bytes w64 index ++ cipher)
 
@@ -25,17 +25,17 @@ node_string left right = 1 ∷ (left ++ right)
 abbrev pub root_string : List ℕ → List ℕ → List ℕ
 root_string header top = 2 ∷ (header ++ top)
 
--- what stands for a right child that isn't there: 32 zeros
+-- the digest used for a right child that is absent: 32 zeros
 abbrev pub absent_child : List ℕ
 absent_child = replicate digest_len 0
 
--- the leaf strings of fragments, of which the first has the index i
+-- the leaf strings of fragments, the first of which has the index i
 abbrev pub leaf_strings : ℕ → List (List ℕ) → List (List ℕ)
 leaf_strings i [] = []
 leaf_strings i (fragment ∷ fragments) = leaf_string i fragment ∷ leaf_strings (i + 1) fragments
 
--- the node strings over a level of digests: each two neighbours have a node, and a last one without a right neighbour has
--- one with an absent child
+-- the node strings over a level of digests: one for each two neighbours, and one with an absent child for a last digest
+-- without a right neighbour
 abbrev pub node_strings : List (List ℕ) → List (List ℕ)
 node_strings [] = []
 node_strings (last ∷ []) = node_string last absent_child ∷ []

@@ -1,4 +1,4 @@
-//! How many digests stand on each level of a table, and so where each one stands.
+//! How many digests each level of a table has, and so at which offset each digest is.
 
 ghost use Rattle.std.specs.Prelude.{◌≡◌, ◌+◌, ◌*◌, ◌≤◌};
 ghost use Rattle.merkle_chunks.specs.Layout.{digest_len};
@@ -19,14 +19,14 @@ pub fn top_level(fragments: u32) -> u32
     level
 }
 
-/// The bytes of the table over so many fragments.
+/// The number of bytes of the table over so many fragments.
 pub fn table_len(fragments: u32) -> usize
     ensures { result ≡ digest_len * digest_count fragments }
 {
     DIGEST_LEN * counts_at(fragments, top_level(fragments) + 1).below as usize
 }
 
-/// The numbers of digests on a level, and on those below it.
+/// The number of digests on a level, and on all levels below it.
 #[derive(Clone, Copy)]
 pub(crate) struct Counts {
     pub here: u64,

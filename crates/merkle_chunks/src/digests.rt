@@ -1,4 +1,4 @@
-//! The digests of the strings that are hashed for a file. Each string is hashed where its parts lie, so nothing is copied.
+//! The digests of the strings that are hashed for a file. The parts of a string are hashed in place, without a copy.
 
 ghost use Rattle.std.specs.Prelude.{◌≡◌};
 ghost use Rattle.sha2.specs.Sha256.{sha256};
@@ -7,19 +7,22 @@ ghost use Rattle.merkle_chunks.specs.File.{key_check};
 
 use sha2::{Digest as _, Sha256};
 
-/// A digest of SHA-256.
+/// A SHA-256 digest.
 pub type Digest = [u8; 32];
 
-/// What each kind of string begins with, so that no leaf is a node, no node the root, and no key check one of them.
+/// The first byte of a leaf string. Each kind of string has another first byte, so no string is of two kinds.
 const LEAF: [u8; 1] = [0];
 
+/// The first byte of a node string.
 const NODE: [u8; 1] = [1];
 
+/// The first byte of the root string.
 const ROOT: [u8; 1] = [2];
 
+/// The first byte of the string hashed for the key check.
 const KEY: [u8; 1] = [4];
 
-/// The digest of a fragment, by its index and its cipher bytes.
+/// The digest of a fragment, from its index and its enciphered bytes.
 pub fn leaf_digest(index: u64, cipher: &[u8; 256]) -> Digest
     ensures { result ≡ sha256 (leaf_string index cipher.now) }
 {
@@ -30,7 +33,7 @@ pub fn leaf_digest(index: u64, cipher: &[u8; 256]) -> Digest
     hasher.finalize()
 }
 
-/// The digest of a node, by those of its children. An absent right child is 32 zeros.
+/// The digest of a node, from those of its children. An absent right child is 32 zeros.
 pub fn node_digest(left: &Digest, right: &Digest) -> Digest
     ensures { result ≡ sha256 (node_string left.now right.now) }
 {
@@ -41,7 +44,7 @@ pub fn node_digest(left: &Digest, right: &Digest) -> Digest
     hasher.finalize()
 }
 
-/// The root of a file, by its header and its top digest.
+/// The root of a file: the digest of its header and its top digest.
 pub fn root_of(header: &[u8; 64], top: &Digest) -> Digest
     ensures { result ≡ sha256 (root_string header.now top.now) }
 {
@@ -52,7 +55,7 @@ pub fn root_of(header: &[u8; 64], top: &Digest) -> Digest
     hasher.finalize()
 }
 
-/// By these 16 bytes of a header a reader sees that its document key is the right one.
+/// The check of a document key: 16 bytes of the header by which a reader sees that its key is the right one.
 pub fn key_check(key: &[u8; 16]) -> [u8; 16]
     ensures { result ≡ key_check key.now }
 {

@@ -1,5 +1,5 @@
-//! The header: 64 bytes before the fragments. It is read by its numbers and written again, and what isn't the same is no
-//! header: so each byte is looked at, and no sum wraps.
+//! The header: 64 bytes before the fragments. `Header::read` takes the numbers from the bytes and writes them again.
+//! Bytes that differ from what is written are refused, so each byte of a header is checked.
 
 ghost use Rattle.std.specs.Prelude.{◌≡◌, ◌≢◌, ◌↔◌, IsTrue, IsErr, IfOk};
 ghost use Rattle.merkle_chunks.specs.HeaderBytes.{IsInRange, header_bytes, fragment_count};
@@ -10,25 +10,25 @@ use crate::counts::counts_at;
 use crate::layout::{DIGEST_LEN, FRAGMENT_LEN, HEADER_LEN};
 use acl_model::limits::{MOST_NAMES, MOST_OPEN_ELEMENTS, MOST_STREAM_BYTES};
 
-/// What each file begins with.
+/// The first bytes of each file.
 const MAGIC: &[u8; 8] = b"SKIPIDX1";
 
 /// The numbers of a file.
 #[derive(Clone, Copy, Debug, PartialEq, Eq)]
 pub struct Header {
-    /// The bytes of the tree section.
+    /// The number of bytes of the tree section.
     pub tree: u64,
-    /// The bytes of the dictionary section.
+    /// The number of bytes of the dictionary section.
     pub dictionary: u32,
     /// The number of names.
     pub tags: u16,
     /// The greatest number of open elements.
     pub depth: u16,
-    /// By these a reader sees that the document key is the right one.
+    /// The key check, by which a reader sees that its document key is the right one.
     pub check: [u8; 16],
 }
 
-/// The bytes are no header.
+/// The bytes are not a header.
 #[derive(Clone, Copy, Debug, PartialEq, Eq)]
 pub struct BadHeader;
 
@@ -48,7 +48,7 @@ impl Header {
         bytes
     }
 
-    /// Reads a header. `BadHeader` comes exactly where the bytes are none.
+    /// Reads a header. The answer is `BadHeader` exactly where the bytes are not a header.
     pub fn read(bytes: &[u8; 64]) -> Result<Header, BadHeader>
         ensures range { IfOk result (λ h. IsInRange h) }
         ensures bytes { IfOk result (λ h. header_bytes h ≡ bytes.now) }
@@ -69,7 +69,7 @@ impl Header {
         (self.tree + u64::from(self.dictionary)).div_ceil(FRAGMENT_LEN as u64) as u32
     }
 
-    /// Where a node of the table stands in the file of so many fragments.
+    /// The byte offset of a node of the table in the file of so many fragments.
     pub fn node_place(fragments: u32, level: u32, index: u32) -> u64
         requires { IsNode fragments level index }
         ensures { result ≡ node_place fragments level index }
@@ -92,7 +92,7 @@ impl Header {
             && self.tree + u64::from(self.dictionary) <= MOST_STREAM_BYTES
     }
 
-    /// The numbers that stand at the places of a header's. Where the bytes are a header, it is that one.
+    /// The numbers at the offsets of a header's fields. Where the bytes are a header, the result is that header.
     fn at_its_places(bytes: &[u8; 64]) -> Header
         ensures { (h : Header) → IsInRange h → header_bytes h ≡ bytes.now → result ≡ h }
     {

@@ -1,19 +1,19 @@
-//! The lengths of a file's parts, as `specs/Layout.antt` has them.
+//! The lengths of a file's parts, as in `specs/Layout.antt`.
 
-/// The bytes of a header.
+/// The number of bytes of a header.
 pub const HEADER_LEN: usize = 64;
 
-/// The bytes of a fragment.
+/// The number of bytes of a fragment.
 pub const FRAGMENT_LEN: usize = 256;
 
-/// The bytes of a digest.
+/// The number of bytes of a digest.
 pub const DIGEST_LEN: usize = 32;
 
-/// The fragments of a chunk.
+/// The number of fragments of a chunk.
 pub const CHUNK_FRAGMENTS: u32 = 16;
 
-/// The level on which each chunk has its digest.
+/// The level of the table with a digest for each chunk.
 pub const CHUNK_LEVEL: u32 = 4;
 
-/// The most levels that a table has above that of the leaves.
+/// The most levels that a table has above its leaves.
 pub const MOST_TOP_LEVEL: usize = 17;

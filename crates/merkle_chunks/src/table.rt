@@ -1,4 +1,4 @@
-//! A table is written where it shall lie, level after level, each digest from the two below it.
+//! Writes a table in place, level after level, each digest from the two below it.
 
 ghost use Rattle.std.specs.Prelude.{◌≡◌, ◌+◌, ◌*◌, ◌/◌, ◌%◌, ◌<◌, ◌≤◌, [], map, length, slice_index_or};
 ghost use Rattle.std.specs.List.{concat};
@@ -6,16 +6,16 @@ ghost use Rattle.sha2.specs.Sha256.{sha256};
 ghost use Rattle.merkle_chunks.specs.Layout.{digest_len, fragment_len};
 ghost use Rattle.merkle_chunks.specs.Strings.{absent_child, node_string, leaf_strings};
 ghost use Rattle.merkle_chunks.specs.Table.{digest_count, fragments, table_bytes, table_levels, top_digest, top_level};
-ghost use Rattle.merkle_chunks.specs.Levels.{digests_in, level_above, levels_above, parents, width};
+ghost use Rattle.merkle_chunks.specs.inside.LevelBytes.{digests_in, level_above, levels_above, parents, width};
 
 use crate::digests::{Digest, leaf_digest, node_digest};
 use crate::layout::{DIGEST_LEN, FRAGMENT_LEN};
 
-/// Stands for a right child that isn't there.
+/// The digest that is hashed for a right child that is absent.
 const ABSENT: Digest = [0; DIGEST_LEN];
 
-/// Hashes each fragment of a cipher once, writes the table over them, and gives its top digest. It takes no memory, so a
-/// file can be made in one piece.
+/// Hashes each fragment of the enciphered stream once, writes the table over them, and returns its top digest. It
+/// allocates no memory, so a file can be built in one buffer.
 pub fn write_table(cipher: &[u8], table: &mut [u8]) -> Digest
     requires whole { length cipher.now % fragment_len ≡ 0 }
     requires some { fragment_len ≤ length cipher.now }
@@ -41,7 +41,7 @@ fn write_leaves(cipher: &[u8], level: &mut [u8])
     }
 }
 
-/// Writes all levels above a level, and gives the top digest.
+/// Writes all levels above a level, and returns the top digest.
 fn write_levels(level: &[u8], above: &mut [u8]) -> Digest
     requires whole { length level.now % digest_len ≡ 0 }
     requires some { digest_len ≤ length level.now }
@@ -74,7 +74,7 @@ fn write_nodes(below: &[u8], level: &mut [u8])
     }
 }
 
-/// The digest of a node, by the level below it.
+/// The digest of a node, from the level below it.
 fn node_over(digests: &[Digest], index: usize) -> Digest
     requires { 2 * index < length digests.now }
     ensures { result ≡ sha256 (node_string (slice_index_or digests.now (2 * index) [])

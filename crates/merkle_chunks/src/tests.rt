@@ -1,5 +1,5 @@
-//! A header worked out by hand, and headers off the grammar by one number. Digests are those of the module `hashlib` of
-//! Python 3.11.
+//! Tests with a header computed by hand, and with headers of which one number is out of range. The expected digests are
+//! those of the module `hashlib` of Python 3.11.
 
 ghost use Rattle.std.specs.Prelude.{◌≡◌, ◌*◌, ◌≤◌, length, IfOk};
 
@@ -9,7 +9,7 @@ use std::alloc::{AllocError, Global};
 use std::process::Abort;
 use std::test::Fail;
 
-/// Of one element `a` with the text `hi`, and a key check of sixteen bytes 7.
+/// The header of one element `a` with the text `hi`, with a key check of sixteen bytes 7.
 const SMALL: Header = Header {
     tree: 9,
     dictionary: 4,
@@ -18,7 +18,7 @@ const SMALL: Header = Header {
     check: [7; 16],
 };
 
-/// Its bytes, in hexadecimal `53 4b 49 50 49 44 58 31`, the numbers, the check and zeros.
+/// The bytes of `SMALL`: in hexadecimal `53 4b 49 50 49 44 58 31`, the numbers, the check and zeros.
 fn small() -> [u8; 64] {
     let mut bytes = [0; 64];
     bytes[..8].copy_from_slice(b"SKIPIDX1");
@@ -55,10 +55,10 @@ fn fragments_are_rounded_up(rt: HostRuntime) -> Result<(), Fail> {
     Ok(())
 }
 
-// The top digest of 41 fragments, and the two digests that a first reader of the last fragment needs: level 3 index 4 and
-// level 5 index 0.
+// The offset of the top digest of 41 fragments, and those of the two digests that a first reader of the last fragment
+// needs: level 3 index 4 and level 5 index 0.
 #[test]
-fn nodes_stand_behind_the_fragments_and_the_levels_below(rt: HostRuntime) -> Result<(), Fail> {
+fn nodes_stand_after_the_fragments_and_the_levels_below(rt: HostRuntime) -> Result<(), Fail> {
     assert_eq!(rt; top_level(41), 6);
     assert_eq!(rt; table_len(41), 85 * 32);
     assert_eq!(rt; Header::node_place(41, 0, 0), 64 + 41 * 256);
@@ -84,7 +84,7 @@ fn each_number_has_its_range(rt: HostRuntime) -> Result<(), Fail> {
         ("a depth of 255", 23, 255, true),
         ("a depth of 257", 22, 1, false),
         ("another check", 39, 8, true),
-        ("a byte behind the check", 40, 1, false),
+        ("a byte after the check", 40, 1, false),
     ];
     for (what, place, byte, good) in rows {
         let mut bytes = small();
@@ -106,7 +106,7 @@ fn each_number_has_its_range(rt: HostRuntime) -> Result<(), Fail> {
     Ok(())
 }
 
-/// Whether the digest is the one that the hexadecimal digits `want` spell.
+/// Checks that the digest, in hexadecimal digits, is `want`.
 fn expect_digest(rt: &impl Abort, digest: &[u8; 32], want: &str) {
     let mut digits = [0u8; 64];
     let fits = hex::encode_to_slice(digest, &mut digits);
@@ -114,7 +114,7 @@ fn expect_digest(rt: &impl Abort, digest: &[u8; 32], want: &str) {
     assert_eq!(rt; digits.as_slice(), want.as_bytes());
 }
 
-/// So many fragments, each byte of fragment `i` being `i % 251`.
+/// So many fragments; each byte of fragment `i` is `i % 251`.
 fn cipher(alloc: Global, fragments: u32) -> Result<Vec<u8>, AllocError>
     requires { fragments ≤ 257 }
     ensures { IfOk result (λ bytes. length bytes.items ≡ 256 * fragments) }
@@ -149,7 +149,7 @@ fn strings_have_the_digests_of_python(rt: HostRuntime) -> Result<(), Fail> {
     Ok(())
 }
 
-// The fragments, the top level and the top digest.
+// The number of fragments, the top level and the top digest.
 #[test]
 fn tables_are_those_of_python(rt: HostRuntime) -> Result<(), Fail> {
     for (fragments, top, digest) in [
@@ -214,7 +214,7 @@ fn tables_are_those_of_python(rt: HostRuntime) -> Result<(), Fail> {
 }
 
 #[test]
-fn a_node_is_told_exactly_on_the_table(rt: HostRuntime) -> Result<(), Fail> {
+fn a_node_is_given_exactly_on_the_table(rt: HostRuntime) -> Result<(), Fail> {
     let cipher = cipher(rt.alloc(), 41)?;
     let tree = Tree::build(rt.alloc(), &cipher).expect(&rt, "memory");
     for (level, count) in [

@@ -1,11 +1,11 @@
-//! The digests over a file's fragments, in one piece of memory: the table as it stands in the file.
+//! The digests over a file's fragments in one buffer: the table as in the file.
 
 ghost use Rattle.std.specs.Prelude.{◌≡◌, ◌+◌, ◌*◌, ◌/◌, ◌%◌, ◌≤◌, length, IfOk};
 ghost use Rattle.acl_model.specs.Limits.{most_stream_bytes};
 ghost use Rattle.sha2.specs.Sha256.{sha256};
 ghost use Rattle.merkle_chunks.specs.Layout.{digest_len, fragment_len};
 ghost use Rattle.merkle_chunks.specs.Table.{digest_count, fragments, node_of, table_bytes, table_levels};
-ghost use Rattle.merkle_chunks.specs.Levels.{levels_in};
+ghost use Rattle.merkle_chunks.specs.inside.LevelBytes.{levels_in};
 
 use crate::counts::{counts_at, table_len, top_level};
 use crate::digests::Digest;
@@ -16,7 +16,7 @@ use acl_outside::NoMemory;
 use std::alloc::Global;
 use std::marker::Model;
 
-/// The digests over fragments. Contracts see its levels, from level 0 to the top one.
+/// The digests over fragments. Its model is the list of its levels, from level 0 to the top one.
 #[derive(Debug, Drop)]
 pub struct Tree {
     fragments: u32,
@@ -27,7 +27,7 @@ pub struct Tree {
 
 impl Model for Tree {
     ghost use Rattle.std.specs.Prelude.{ℕ, List};
-    ghost use Rattle.merkle_chunks.specs.Levels.{levels_in};
+    ghost use Rattle.merkle_chunks.specs.inside.LevelBytes.{levels_in};
 
     ghost Value = { List (List (List ℕ)) };
 
@@ -35,7 +35,7 @@ impl Model for Tree {
 }
 
 impl Tree {
-    /// The tree over the fragments of a cipher. Each fragment is hashed once, where it lies.
+    /// The tree over the fragments of an enciphered stream. Each fragment is hashed once, in place.
     pub fn build(alloc: Global, cipher: &[u8]) -> Result<Tree, NoMemory>
         requires whole { length cipher.now % fragment_len ≡ 0 }
         requires some { fragment_len ≤ length cipher.now }
@@ -48,7 +48,7 @@ impl Tree {
         Ok(Tree { fragments, table })
     }
 
-    /// The digest at a level and an index, both from 0. None comes exactly off the table.
+    /// The digest at a level and an index, both from 0. The answer is None exactly where the table has no such node.
     pub fn node(&self, level: u32, index: u32) -> Option<Digest>
         ensures { result ≡ node_of self.now level index }
     {
@@ -72,7 +72,7 @@ impl Tree {
         top_level(self.fragments)
     }
 
-    /// The bytes of the table, as they stand in the file.
+    /// The bytes of the table, as in the file.
     pub fn table_bytes(&self) -> &[u8]
         ensures { result.now ≡ table_bytes self.now }
     {

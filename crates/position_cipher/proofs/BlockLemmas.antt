@@ -1,4 +1,4 @@
--- Sums byte by byte, and a loop that changes one block after another.
+-- Lemmas on the exclusive or of lists, and on a loop that changes one block after another.
 use Rattle.std.proofs.Common.{◌≡◌, ℕ, zero, suc, ◌+◌, ◌*◌, ◌<◌, List, [], ◌∷◌, ◌++◌, length, take, drop, get_or, refl, sym, ap, ◌∙◌, arith, bit_xor, append_assoc, append-nil}
 use Rattle.std.proofs.lemmas.List.{take_all, take-append-le, drop-append-le, length-take-le, length-drop, take-append-drop, length-append, drop-drop, nil_from_length}
 use Rattle.std.proofs.lemmas.Grind.{same_number_lists}
@@ -16,14 +16,14 @@ get_or-xor_bytes (x ∷ xs) [] k same lt = absurd (omega arith)
 get_or-xor_bytes (x ∷ xs) (y ∷ ys) zero same lt = refl
 get_or-xor_bytes (x ∷ xs) (y ∷ ys) (suc k) same lt = get_or-xor_bytes xs ys k (omega arith) (omega arith)
 
--- a list that has the sum of the bytes at each index is the sum
+-- a list that has, at each index, the exclusive or of two lists' bytes is the exclusive or of the lists
 pub xor_bytes_from_each : (zs xs ys : List ℕ) → length xs ≡ length ys → length zs ≡ length xs
     → ((k : ℕ) → k < length xs → get_or zs k 0 ≡ bit_xor (get_or xs k 0) (get_or ys k 0)) → zs ≡ xor_bytes xs ys
 xor_bytes_from_each zs xs ys same long each =
     same_number_lists zs (xor_bytes xs ys) (long ∙ sym (length-xor_bytes xs ys same))
     (λ k lt. each k (omega arith) ∙ sym (get_or-xor_bytes xs ys k same (omega arith)))
 
--- one more block
+-- `each_block` of one more block
 pub each_block-more : (f : ℕ → List ℕ → List ℕ) (number n : ℕ) (xs block : List ℕ) → length xs ≡ 16 * n → length block ≡ 16
     → each_block f number (suc n) (xs ++ block) ≡ each_block f number n xs ++ f (number + n) block
 unfolding each_block
@@ -42,7 +42,7 @@ each_block-more f number (suc n) xs block long size =
     ∙ ap (λ (m : ℕ). each_block f (number + 1) n (drop 16 xs) ++ f m block) there)
     ∙ sym (append_assoc (f number (take 16 xs)) (each_block f (number + 1) n (drop 16 xs)) (f (number + suc n) block))
 
--- the blocks below k are done, by f and back by g, and the bytes from there on are the old ones
+-- The first k blocks are the results of f, g restores them, and the bytes after them are the old ones.
 pub record AreDone (f g : ℕ → List ℕ → List ℕ) (number k : ℕ) (old bytes : List ℕ) : Type 0 where
   pub count : length bytes ≡ 256
   pub done : take (16 * k) bytes ≡ each_block f number k (take (16 * k) old)
@@ -67,8 +67,8 @@ AreDone-more f g number k w old bytes block lt wide long size before made back =
     let piece : List ℕ = take 16 (drop a old) in
     let same : take w (drop a bytes) ≡ piece = ap (λ (n : ℕ). take n (drop a bytes)) wide ∙ ap (take 16) before.rest in
     let fits : length piece ≡ 16 = length-take-le 16 (drop a old) (omega (arith, length-drop a old)) in
-    let front : length (take a old) ≡ 16 * k = length-take-le a old (omega arith) in
-    let front_now : length (take a bytes) ≡ 16 * k = length-take-le a bytes (omega arith) in
+    let prefix : length (take a old) ≡ 16 * k = length-take-le a old (omega arith) in
+    let prefix_now : length (take a bytes) ≡ 16 * k = length-take-le a bytes (omega arith) in
     let whole : take a old ++ piece ≡ take (16 * (k + 1)) old =
     sym (take-add a 16 old) ∙ ap (λ (n : ℕ). take n old) (omega arith) in
     let written : take (16 * (k + 1)) next ≡ take a bytes ++ block =
@@ -82,18 +82,18 @@ AreDone-more f g number k w old bytes block lt wide long size before made back =
       count = omega (arith, ap length written, length-append (take a bytes) block, ap length (take-append-drop (16 * (k + 1)) next), length-append (take (16 * (k + 1)) next) (drop (16 * (k + 1)) next), ap length untouched, length-drop (16 * (k + 1)) bytes);
       done = written
           ∙ (λ i. before.done i ++ (made ∙ ap (f (number + k)) same) i)
-          ∙ sym (each_block-more f number k (take a old) piece front fits)
+          ∙ sym (each_block-more f number k (take a old) piece prefix fits)
           ∙ ap (each_block f number (suc k)) whole
           ∙ ap (λ (n : ℕ). each_block f number n (take (16 * (k + 1)) old)) (sym more);
       undone = ap (λ (n : ℕ). each_block g number n (take (16 * (k + 1)) next)) more
           ∙ ap (each_block g number (suc k)) written
-          ∙ each_block-more g number k (take a bytes) block front_now size
+          ∙ each_block-more g number k (take a bytes) block prefix_now size
           ∙ (λ i. before.undone i ++ (back ∙ same) i)
           ∙ whole;
       rest = untouched ∙ sym (later bytes) ∙ ap (drop 16) before.rest ∙ later old;
     }
 
--- all sixteen blocks
+-- all sixteen blocks are written
 pub AreDone-all : (f g : ℕ → List ℕ → List ℕ) (number k : ℕ) (old bytes : List ℕ) → k ≡ 16 → length old ≡ 256 → AreDone f g number k old bytes
     → (bytes ≡ each_block f number 16 old) × (each_block g number 16 bytes ≡ old)
 AreDone-all f g number k old bytes all long state =

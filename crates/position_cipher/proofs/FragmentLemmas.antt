@@ -1,4 +1,4 @@
--- Locking and unlocking undo each other, block after block, and two numbers have two masks.
+-- Enciphering and deciphering undo each other, block by block, and different numbers have different masks.
 use Rattle.std.proofs.Common.{◌≡◌, ◌≢◌, ℕ, zero, suc, ◌+◌, ◌*◌, ◌/◌, ◌%◌, ◌^◌, ◌<◌, List, [], ◌∷◌, ◌++◌, length, take, drop, get_or, refl, sym, ap, ◌∙◌, arith, pow-suc, length-append}
 use Rattle.std.proofs.Math.Nat.{div-div-eq-div-mul}
 use Rattle.std.proofs.lemmas.List.{take_all, drop_all, take-append-le, drop-append-le, length-take-le, length-drop, take-append-drop, nil_from_length}
@@ -14,7 +14,7 @@ use Rattle.position_cipher.specs.Fragments.{block_mask, each_block, locked_block
 low_byte : (n : ℕ) → n % 256 < 256
 low_byte n = omega arith
 
--- a mask is a state
+-- a mask is sixteen bytes
 IsState-block_mask : (number : ℕ) → IsState (block_mask number)
 IsState-block_mask number = record {
   size = refl;
@@ -25,11 +25,11 @@ byte_of : (k n : ℕ) → byte_at k n ≡ n / 256 ^ k % 256
 byte_of zero n = let whole : n / 1 ≡ n = omega arith in ap (λ (x : ℕ). x % 256) (sym whole)
 byte_of (suc k) n = refl
 
--- a number above a byte is the byte and what is above it
+-- n / p is its lowest byte plus 256 times the rest
 byte_and_above : (n p : ℕ) → n / p ≡ n / p % 256 + n / (p * 256) * 256
 byte_and_above n p = omega (arith, div-div-eq-div-mul n p 256)
 
--- two numbers of which the k lowest bytes are the same, and what is above them, are the same
+-- two numbers are equal where their k lowest bytes are, and the parts above these
 same_from_bytes : (k m n : ℕ) → bytes_high_first k m ≡ bytes_high_first k n → m / 256 ^ k ≡ n / 256 ^ k → m ≡ n
 same_from_bytes zero m n bytes above = omega (arith, above)
 same_from_bytes (suc k) m n bytes above =
@@ -72,7 +72,7 @@ module _ (key : List ℕ) (is_key : AreBytes 16 key) (number : ℕ) (block : Lis
   unfolding unlocked_block
   IsState-unlocked_block = IsState-add_round_key (inverse_cipher key block) (block_mask number) found (IsState-block_mask number)
 
-  -- unlocking a locked block gives it again
+  -- deciphering an enciphered block gives the block
   unlocked-locked_block : unlocked_block key number (locked_block key number block) ≡ block
   unfolding locked_block unlocked_block
   unlocked-locked_block =
@@ -80,7 +80,7 @@ module _ (key : List ℕ) (is_key : AreBytes 16 key) (number : ℕ) (block : Lis
       (deciphered key (xor_bytes block (block_mask number)) is_key (AreBytes-IsState (xor_bytes block (block_mask number)) sum))
       ∙ add_round_key_undone block (block_mask number) is (IsState-block_mask number)
 
-  -- locking an unlocked block gives it again
+  -- enciphering a deciphered block gives the block
   locked-unlocked_block : locked_block key number (unlocked_block key number block) ≡ block
   unfolding locked_block unlocked_block
   locked-unlocked_block =
@@ -96,13 +96,13 @@ xor_bytes-comm [] (y ∷ ys) same = absurd (omega arith)
 xor_bytes-comm (x ∷ xs) [] same = absurd (omega arith)
 xor_bytes-comm (x ∷ xs) (y ∷ ys) same = λ i. xor_comm x y i ∷ xor_bytes-comm xs ys (omega arith) i
 
--- what is added to a block is found from the sum
+-- the mask is the exclusive or of the masked block and the block
 mask_of_sum : (block mask : List ℕ) → IsState block → IsState mask → xor_bytes (xor_bytes block mask) block ≡ mask
 mask_of_sum block mask is also =
     ap (λ (b : List ℕ). xor_bytes b block) (xor_bytes-comm block mask (is.size ∙ sym also.size))
     ∙ add_round_key_undone mask block also is
 
--- a block that is locked at different numbers below 2^128 gives different blocks
+-- a block that is enciphered with different numbers below 2^128 gives different blocks
 pub locked_blocks_differ : (key block : List ℕ) (m n : ℕ) → AreBytes 16 key → AreBytes 16 block → m < 2 ^ 128 → n < 2 ^ 128 → m ≢ n
     → locked_block key m block ≢ locked_block key n block
 unfolding locked_block
@@ -119,7 +119,7 @@ locked_blocks_differ key block m n is_key is_block small also other same =
     ∙ ap (λ (b : List ℕ). xor_bytes b block) sums
     ∙ mask_of_sum block (block_mask n) is (IsState-block_mask n))
 
--- ---- block after block
+-- ---- block by block
 
 AllBytes-take : (n : ℕ) (xs : List ℕ) → AllBytes xs → AllBytes (take n xs)
 AllBytes-take zero xs all = tt
@@ -131,7 +131,7 @@ AllBytes-drop zero xs all = all
 AllBytes-drop (suc n) [] all = tt
 AllBytes-drop (suc n) (x ∷ xs) all = AllBytes-drop n xs all.1
 
--- the function gives a block for a block
+-- the function maps blocks to blocks
 abbrev GivesBlocks : (ℕ → List ℕ → List ℕ) → Type 0
 GivesBlocks f = (number : ℕ) (block : List ℕ) → IsState block → IsState (f number block)
 
@@ -159,7 +159,7 @@ AllBytes-each_block f gives number (suc n) xs size all =
     (gives number (take 16 xs) (IsState-first n xs size all)).bytes
     (AllBytes-each_block f gives (number + 1) n (drop 16 xs) (omega (arith, length-drop 16 xs)) (AllBytes-drop 16 xs all))
 
--- what is undone in each block is undone in all
+-- where g undoes f for each block, it does so for a list of blocks
 each_block-each_block : (f g : ℕ → List ℕ → List ℕ) → GivesBlocks f
     → ((number : ℕ) (block : List ℕ) → IsState block → g number (f number block) ≡ block)
     → (number n : ℕ) (xs : List ℕ) → length xs ≡ 16 * n → AllBytes xs
@@ -171,11 +171,11 @@ each_block-each_block f g gives back number (suc n) xs size all =
     let made : List ℕ = f number (take 16 xs) in
     let rest : List ℕ = each_block f (number + 1) n (drop 16 xs) in
     let is : IsState made = gives number (take 16 xs) first in
-    let front : take 16 (made ++ rest) ≡ made =
+    let prefix : take 16 (made ++ rest) ≡ made =
     take-append-le 16 made rest (omega (arith, is.size)) ∙ take_all 16 made (omega (arith, is.size)) in
-    let behind : drop 16 (made ++ rest) ≡ rest =
+    let after : drop 16 (made ++ rest) ≡ rest =
     drop-append-le 16 made rest (omega (arith, is.size)) ∙ ap (λ (l : List ℕ). l ++ rest) (drop_all 16 made (omega (arith, is.size))) in
-    (λ i. g number (front i) ++ each_block g (number + 1) n (behind i))
+    (λ i. g number (prefix i) ++ each_block g (number + 1) n (after i))
     ∙ (λ i. back number (take 16 xs) first i ++ each_block-each_block f g gives back (number + 1) n (drop 16 xs) (omega (arith, length-drop 16 xs)) (AllBytes-drop 16 xs all) i)
     ∙ take-append-drop 16 xs
 
@@ -185,19 +185,19 @@ module _ (key bytes : List ℕ) (index : ℕ) (is_key : AreBytes 16 key) (is : A
   all : AllBytes bytes
   all = AllBytes_from_each bytes is.fit
 
-  -- unlocking a locked fragment gives it again
+  -- deciphering an enciphered fragment gives the fragment
   pub unlocked-locked_fragment : unlocked_fragment key index (locked_fragment key index bytes) ≡ bytes
   unlocked-locked_fragment =
       each_block-each_block (locked_block key) (unlocked_block key) (IsState-locked_block key is_key) (unlocked-locked_block key is_key)
       (16 * index) 16 bytes is.count all
 
-  -- locking an unlocked fragment gives it again
+  -- enciphering a deciphered fragment gives the fragment
   pub locked-unlocked_fragment : locked_fragment key index (unlocked_fragment key index bytes) ≡ bytes
   locked-unlocked_fragment =
       each_block-each_block (unlocked_block key) (locked_block key) (IsState-unlocked_block key is_key) (locked-unlocked_block key is_key)
       (16 * index) 16 bytes is.count all
 
-  -- a locked fragment is 256 bytes
+  -- an enciphered fragment is 256 bytes
   pub AreBytes-locked_fragment : AreBytes 256 (locked_fragment key index bytes)
   AreBytes-locked_fragment = record {
     count = length-each_block (locked_block key) (IsState-locked_block key is_key) (16 * index) 16 bytes is.count all;
@@ -205,7 +205,7 @@ module _ (key bytes : List ℕ) (index : ℕ) (is_key : AreBytes 16 key) (is : A
         (AllBytes-each_block (locked_block key) (IsState-locked_block key is_key) (16 * index) 16 bytes is.count all);
   }
 
-  -- an unlocked fragment is 256 bytes
+  -- a deciphered fragment is 256 bytes
   pub AreBytes-unlocked_fragment : AreBytes 256 (unlocked_fragment key index bytes)
   AreBytes-unlocked_fragment = record {
     count = length-each_block (unlocked_block key) (IsState-unlocked_block key is_key) (16 * index) 16 bytes is.count all;

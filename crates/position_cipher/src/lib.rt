@@ -1,5 +1,4 @@
-//! Fragments of a stream, enciphered block by block with each block's number in the stream as a
-//! mask.
+//! Enciphers and deciphers fragments of a stream by AES-128. Each block is masked with its number in the stream.
 #![tactic(auto)]
 
 pub use block_mask::mask;

@@ -6,8 +6,8 @@ fn a_mask_is_the_number_with_its_low_byte_last(rt: HostRuntime) {
     assert_eq!(rt; mask(258), [0, 0, 0, 0, 0, 0, 0, 0, 0, 0, 0, 0, 0, 0, 1, 2]);
 }
 
-// FIPS 197 of 2001, appendix C.1: block 16 of a stream is the first one of its fragment 1, and the
-// mask 16 turns its last byte from ef into the standard's ff.
+// FIPS 197 of 2001, appendix C.1. Block 16 of a stream is the first block of fragment 1. The mask 16 changes its last
+// byte from ef to ff, which is the last byte of the standard's block.
 #[test]
 fn the_first_block_of_fragment_1_has_the_number_16(rt: HostRuntime) {
     let key = Key128::new(0x000102030405060708090a0b0c0d0e0f_u128.to_be_bytes());

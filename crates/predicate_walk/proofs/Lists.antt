@@ -1,4 +1,4 @@
--- A law of lists.
+-- A lemma on lists.
 use Rattle.std.proofs.Common.{◌≡◌, Bool, ◌||◌, List, [], ◌∷◌, map, refl, ap}
 use Rattle.std.specs.List.{list_any}
 

@@ -1,4 +1,4 @@
--- Rows by names: what a map of them has after one more name, and that a name with no row has the row of all such names.
+-- The rows of names: what the map has after one more name, and that all names without a row in it share one row.
 use Rattle.std.proofs.Common.{◌≡◌, ℕ, Bool, true, false, ◌&&◌, ◌||◌, not, cond, nat_eq, Option, None, Some, is_some, Vec, List, [], ◌∷◌, ◌++◌, map, reverse, length, get_or, take, refl, ap, subst, sym, ◌∙◌, ⊎_elim, ◌<◌, ◌≤◌, ◌+◌}
 use mathlib.Core.List.{reverse_aux}
 use Rattle.std.specs.Cmp.Lexicographic.{pointwise, bytes_decides}
@@ -17,15 +17,15 @@ use Rattle.acl_model.specs.declared.path.PredStep.{PredStep}
 use Rattle.acl_model.specs.declared.path.Test.{Test}
 use Rattle.acl_model.specs.declared.path.Test.TheVariants.{Any, Named}
 use Rattle.predicate_walk.specs.declared.truths.PredRef.{PredRef}
-use Rattle.predicate_walk.specs.States.{passes_each, answers, tests_of, is_name_of, does_name, is_named_in}
-use Rattle.predicate_walk.specs.NameRows.{row_in, AreRows, AddsRows, AreAllRows}
+use Rattle.predicate_walk.specs.inside.States.{passes_each, answers, tests_of, is_name_of, does_name, is_named_in}
+use Rattle.predicate_walk.specs.inside.NameRows.{row_in, AreRows, AddsRows, AreAllRows}
 use Rattle.predicate_walk.specs.Truths.{preds_in}
 
 -- two lists of bytes that compare equal are equal
 same_bytes : (xs ys : List ℕ) → pointwise nat_eq xs ys ≡ true → xs ≡ ys
 same_bytes xs ys same = (bytes_decides xs ys).0 same
 
--- where one entry changes, those that another test finds stay
+-- Where one entry changes, an entry that another test finds stays.
 others_stay : {K X : Type 0} (eq : K → K → Bool) (test : K → Bool) (old new : List (K × X))
     → KeepsOthers eq test old new
     → (other : K → Bool) → IsKeyTest eq other → AreApart test other → lookup other new ≡ lookup other old
@@ -45,7 +45,7 @@ row_in-put old new key row put name = ⊎_elim
     ∙ sym (cond-false (pointwise nat_eq key.items name) (Some row) (row_in old name) apart))
     (cases_Bool (pointwise nat_eq key.items name))
 
--- a name and the names that equal it
+-- a name, and the names equal to it
 same_row : {T : Type 0} (f : List ℕ → T) (name other : List ℕ) (old : T)
     → cond (pointwise nat_eq name other) (f name) old ≡ cond (pointwise nat_eq name other) (f other) old
 same_row f name other old = ⊎_elim
@@ -53,7 +53,7 @@ same_row f name other old = ⊎_elim
     (λ apart. cond-false _ _ _ apart ∙ sym (cond-false _ _ _ apart))
     (cases_Bool (pointwise nat_eq name other))
 
--- A name that the map doesn't have gets its row.
+-- A name that is not in the map gets its row.
 pub adds_name : {A H : Type 0} (preds : List Pred) (old new : HashMap (Vec ℕ A) (List Bool) H) (key : Vec ℕ A) (row : List Bool) (name : List ℕ)
     → key.items ≡ name → row ≡ tests_of name preds
     → UpdatesBy (λ x y. pointwise nat_eq x.items y.items) (λ k. pointwise nat_eq key.items k.items) old new (Some row)
@@ -66,7 +66,7 @@ adds_name preds old new key row name same is put = record {
       ∙ same_row {T = Option (List Bool)} (λ n. Some (tests_of n preds)) name other (row_in old other);
 }
 
--- A name that the map has keeps its row.
+-- A name that is in the map keeps its row.
 pub has_name : {A H : Type 0} (preds : List Pred) (rows : HashMap (Vec ℕ A) (List Bool) H) (name : List ℕ)
     → AreRows preds rows → is_some (row_in rows name) ≡ true
     → AddsRows preds (λ n. pointwise nat_eq name n) rows rows
@@ -117,7 +117,7 @@ rows_added preds f old new are adds = record {
       (stays_right (f name) (tests_of name preds) (row_in old name) (are.right name));
 }
 
--- one more step of a way
+-- one more step of a path
 pub step_named : (name : List ℕ) (way : List PredStep) (i : ℕ) (s : PredStep) → i < length way → s ≡ get_or way i s
     → list_any (does_name name) (take (i + 1) way) ≡ (list_any (does_name name) (take i way) || does_name name s)
 step_named name way i s within is =
@@ -151,7 +151,7 @@ ref_named name refs i r within is =
     ∙ ap (λ b. is_named_in (preds_in (take i refs)) name || b)
     (or_false (list_any (does_name name) (get_or refs i r).pred.now.way) ∙ ap (λ x. list_any (does_name name) x.pred.now.way) (sym is))
 
--- all names of a way
+-- all names of a path
 pub way_added : {A H : Type 0} (preds : List Pred) (way : List PredStep) (i : ℕ) (old new : HashMap (Vec ℕ A) (List Bool) H) → length way ≤ i
     → AddsRows preds (λ n. list_any (does_name n) (take i way)) old new
     → AddsRows preds (λ n. list_any (does_name n) way) old new
@@ -198,7 +198,7 @@ map_aux : (f : PredStep → Bool) (xs ys : List PredStep) → map f (reverse_aux
 map_aux f [] ys = refl
 map_aux f (x ∷ xs) ys = map_aux f xs (x ∷ ys)
 
--- A name that no step names passes the steps that each name passes.
+-- A name that no step names passes exactly the steps that pass every name.
 unnamed : (preds : List Pred) (name : List ℕ) → is_named_in preds name ≡ false
     → answers (λ s. passes_each s.test) preds ≡ tests_of name preds
 unfolding answers
@@ -209,7 +209,7 @@ unnamed (pred ∷ preds) name un =
     ∙ ap (λ r. false ∷ (map (λ s. passes s.test name) (reverse pred.way) ++ r))
     (unnamed preds name (or_right (list_any (does_name name) pred.way) (is_named_in preds name) un))
 
--- Each name's row is found.
+-- The row of each name is found.
 pub tests_found : {A H : Type 0} (preds : List Pred) (named : HashMap (Vec ℕ A) (List Bool) H) (others : List Bool)
     → AreAllRows preds named → others ≡ answers (λ s. passes_each s.test) preds
     → (name : List ℕ) → unwrap_or (row_in named name) others ≡ tests_of name preds

@@ -1,4 +1,4 @@
--- A walk that tests each target where it is met holds where acl_model's predicate does.
+-- A walk that tests each target where it is reached gives `holds` of acl_model.
 use Rattle.std.proofs.Common.{◌≡◌, ℕ, Bool, true, false, ◌&&◌, ◌||◌, Option, Some, None, List, [], ◌∷◌, map, append-nil, cond, refl, ap, sym, ◌∙◌}
 use Rattle.std.proofs.lemmas.List.Folds.{list_any-append}
 use Rattle.std.specs.List.{list_any, filter, flat_map}
@@ -10,7 +10,7 @@ use Rattle.acl_model.specs.declared.document.Element.{Element}
 use Rattle.acl_model.specs.declared.path.Pred.{Pred}
 use Rattle.acl_model.specs.declared.path.PredStep.{PredStep}
 use Rattle.acl_model.specs.declared.path.Cmp.{Cmp}
-use Rattle.predicate_walk.specs.Met.{is_enough_at, is_met}
+use Rattle.predicate_walk.specs.inside.Met.{is_enough_at, is_met}
 use Rattle.value_scan.specs.Attributes.{attribute_is_enough}
 
 or_false : (b : Bool) → (b || false) ≡ b
@@ -27,7 +27,7 @@ any_attribute name cmp (raw ∷ raws) =
     elim (gives_value name raw) as (λ t. list_any (is_enough cmp) (map attribute_value (cond t (raw ∷ filter (gives_value name) raws) (filter (gives_value name) raws))) ≡ ((t && is_enough cmp (attribute_value raw)) || list_any (attribute_is_enough name cmp) raws))
     [ true ↦ ap (λ b. is_enough cmp (attribute_value raw) || b) (any_attribute name cmp raws) | false ↦ any_attribute name cmp raws ]
 
--- With the name of an attribute each attribute is looked at.
+-- With the name of an attribute, each attribute of the element is tested.
 pub enough_attributes : (pred : Pred) (name : List ℕ) (e : Element) → pred.attribute ≡ Some name
     → list_any (attribute_is_enough name pred.cmp) e.attributes ≡ is_enough_at pred e
 unfolding is_enough_at
@@ -36,7 +36,7 @@ enough_attributes pred name e is =
     ∙ ap (list_any (is_enough pred.cmp)) (sym (append-nil (attribute_values name e)))
     ∙ ap (λ o. list_any (is_enough pred.cmp) (values_at o (e ∷ []))) (sym is)
 
--- Without one the string-value is.
+-- Without one, the string-value is tested.
 pub enough_text : (pred : Pred) (cmp : Cmp) (e : Element) → pred.attribute ≡ None → pred.cmp ≡ Some cmp
     → satisfies cmp.op cmp.operand (string_value e) ≡ is_enough_at pred e
 unfolding is_enough_at
@@ -45,7 +45,7 @@ enough_text pred cmp e none is =
     ∙ ap (λ c. list_any (is_enough c) (string_value e ∷ [])) (sym is)
     ∙ ap (λ o. list_any (is_enough pred.cmp) (values_at o (e ∷ []))) (sym none)
 
--- Without a comparison it is enough that the element is there.
+-- Without a comparison, it is enough that the element exists.
 pub enough_there : (pred : Pred) (e : Element) → pred.attribute ≡ None → pred.cmp ≡ None → true ≡ is_enough_at pred e
 unfolding is_enough_at
 enough_there pred e none is =
@@ -85,7 +85,7 @@ any_value p (Some name) (e ∷ es) =
     ∙ ap (λ vs. list_any p vs || list_any (λ x. list_any p (values_at (Some name) (x ∷ []))) es)
     (sym (append-nil (attribute_values name e)))
 
--- A predicate holds where the walk meets a target that is enough.
+-- A predicate holds where the walk reaches a target with a value that is enough.
 pub held_where_met : (pred : Pred) (e : Element) → is_met (is_enough_at pred) pred.way e ≡ holds pred e
 unfolding holds is_enough_at
 held_where_met pred e =

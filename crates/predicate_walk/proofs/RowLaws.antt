@@ -1,4 +1,4 @@
--- Rows that loops make.
+-- The rows that loops make.
 use Rattle.std.proofs.Common.{◌≡◌, ℕ, ◌+◌, ◌<◌, ◌≤◌, suc, Bool, false, List, [], ◌∷◌, ◌++◌, map, reverse, length, get_or, take, drop, drop-cons, replicate, refl, ap, sym, ◌∙◌, append_assoc, append-nil, length-append, length-drop, add-one, add-zero, arith}
 use Rattle.std.proofs.lemmas.List.{take_more, take-append-drop, length-replicate, reverse-append, length-map, length-reverse, length-take-le, drop-drop, drop_at, take_at, take_all, drop_all, get_or-drop, get_or_append_left}
 use Rattle.acl_model.specs.Predicates.{holds}
@@ -6,12 +6,12 @@ use Rattle.acl_model.specs.declared.document.Element.{Element}
 use Rattle.acl_model.specs.declared.path.Pred.{Pred}
 use Rattle.acl_model.specs.declared.path.PredStep.{PredStep}
 use Rattle.predicate_walk.specs.declared.truths.PredRef.{PredRef}
-use Rattle.predicate_walk.specs.Met.{is_enough_at}
-use Rattle.predicate_walk.specs.States.{answers, number_of_states, later_states, states_at, row_at, inner_row_at, last_states, patched}
+use Rattle.predicate_walk.specs.inside.Met.{is_enough_at}
+use Rattle.predicate_walk.specs.inside.States.{answers, number_of_states, later_states, states_at, row_at, inner_row_at, last_states, patched}
 use Rattle.predicate_walk.specs.Truths.{truths_at, preds_in}
 use Rattle.predicate_walk.proofs.StateLaws.{length-later_states, last_holds}
 
--- one more step of a way, from its end
+-- one more step of a path, from its end
 pub push_step : (f : PredStep → Bool) (way : List PredStep) (n : ℕ) (s : PredStep) (flags next all : List Bool)
     → n < length way → s ≡ get_or way n s → next ≡ flags ++ (f s ∷ [])
     → flags ++ map f (reverse (take (n + 1) way)) ≡ all → next ++ map f (reverse (take n way)) ≡ all
@@ -42,7 +42,7 @@ clear_steps : (ask : PredStep → Bool) (way : List PredStep) (rest clear : List
 clear_steps ask [] rest clear same = same
 clear_steps ask (s ∷ way) rest clear same = ap (λ r. false ∷ r) (clear_steps ask way rest clear same)
 
--- a row of as many flags that are not set
+-- a row of that many flags, none of them set
 pub clear_is : (ask : PredStep → Bool) (preds : List Pred) → replicate (length (answers ask preds)) false
     ≡ answers (λ s. false) preds
 unfolding answers
@@ -99,22 +99,22 @@ pub targets_step : (pred : Pred) (rest : List Pred) (e : Element) (start : ℕ) 
     × (take (start + (length pred.way + 1)) next ++ row_at rest e ≡ all) × (length next ≡ length row)
 unfolding inner_row_at row_at
 targets_step pred rest e start row next all v long left made is put =
-    let front : List Bool = take start row in
+    let prefix : List Bool = take start row in
     let later : List Bool = later_states pred e in
     let others : List Bool = inner_row_at rest e in
-    let front_long : length front ≡ start = length-take-le start row (omega (arith, long)) in
+    let prefix_long : length prefix ≡ start = length-take-le start row (omega (arith, long)) in
     let later_long : length later ≡ length pred.way = length-later_states pred e in
     let after : drop (start + 1) row ≡ later ++ others = sym (drop-drop 1 start row) ∙ ap (drop 1) left in
-    let whole : next ≡ (front ++ (v ∷ later)) ++ others = put ∙ ap (λ s. front ++ (v ∷ s)) after ∙ sym (append_assoc front (v ∷ later) others) in
-    let place : length (front ++ (v ∷ later)) ≡ start + (length pred.way + 1) = omega (arith, front_long, later_long, length-append front (v ∷ later)) in (
+    let whole : next ≡ (prefix ++ (v ∷ later)) ++ others = put ∙ ap (λ s. prefix ++ (v ∷ s)) after ∙ sym (append_assoc prefix (v ∷ later) others) in
+    let place : length (prefix ++ (v ∷ later)) ≡ start + (length pred.way + 1) = omega (arith, prefix_long, later_long, length-append prefix (v ∷ later)) in (
       ap (drop (start + (length pred.way + 1))) whole
-          ∙ drop_at (front ++ (v ∷ later)) others (start + (length pred.way + 1)) place,
+          ∙ drop_at (prefix ++ (v ∷ later)) others (start + (length pred.way + 1)) place,
       ap (λ s. take (start + (length pred.way + 1)) s ++ row_at rest e) whole
-          ∙ ap (λ s. s ++ row_at rest e) (take_at (front ++ (v ∷ later)) others (start + (length pred.way + 1)) place)
-          ∙ append_assoc front (v ∷ later) (row_at rest e)
-          ∙ ap (λ b. front ++ (b ∷ (later ++ row_at rest e))) is
+          ∙ ap (λ s. s ++ row_at rest e) (take_at (prefix ++ (v ∷ later)) others (start + (length pred.way + 1)) place)
+          ∙ append_assoc prefix (v ∷ later) (row_at rest e)
+          ∙ ap (λ b. prefix ++ (b ∷ (later ++ row_at rest e))) is
           ∙ made,
-      ap length put ∙ length-append front (v ∷ drop (start + 1) row) ∙ same_length row start (omega (arith, long)),
+      ap length put ∙ length-append prefix (v ∷ drop (start + 1) row) ∙ same_length row start (omega (arith, long)),
     )
   where
     same_length : (row : List Bool) (n : ℕ) → n < length row → length (take n row) + suc (length (drop (n + 1) row))
@@ -149,25 +149,25 @@ length-row_at (pred ∷ preds) e =
 
 -- ---- flags
 
-patched_is : (front tail vs : List Bool) (at : ℕ) → length front ≡ at → patched at vs (front ++ tail)
-    ≡ front ++ (vs ++ drop (length vs) tail)
-patched_is front tail vs at long =
-    ap (λ s. s ++ (vs ++ drop (at + length vs) (front ++ tail))) (take_at front tail at long)
-    ∙ ap (λ s. front ++ (vs ++ s))
-    (sym (drop-drop (length vs) at (front ++ tail)) ∙ ap (drop (length vs)) (drop_at front tail at long))
+patched_is : (prefix tail vs : List Bool) (at : ℕ) → length prefix ≡ at → patched at vs (prefix ++ tail)
+    ≡ prefix ++ (vs ++ drop (length vs) tail)
+patched_is prefix tail vs at long =
+    ap (λ s. s ++ (vs ++ drop (at + length vs) (prefix ++ tail))) (take_at prefix tail at long)
+    ∙ ap (λ s. prefix ++ (vs ++ s))
+    (sym (drop-drop (length vs) at (prefix ++ tail)) ∙ ap (drop (length vs)) (drop_at prefix tail at long))
 
 -- one more flag gets its value
 pub patched-more : (flags next vs : List Bool) (at : ℕ) (v : Bool) → at < length flags → next
     ≡ take at flags ++ (v ∷ drop (at + 1) flags) → patched (at + 1) vs next ≡ patched at (v ∷ vs) flags
 patched-more flags next vs at v within put =
-    let front : List Bool = take at flags in
+    let prefix : List Bool = take at flags in
     let tail : List Bool = drop (at + 1) flags in
-    let long : length front ≡ at = length-take-le at flags (omega arith) in
-    let longer : length (front ++ (v ∷ [])) ≡ at + 1 = omega (arith, long, length-append front (v ∷ [])) in
-    ap (patched (at + 1) vs) (put ∙ sym (append_assoc front (v ∷ []) tail))
-    ∙ patched_is (front ++ (v ∷ [])) tail vs (at + 1) longer
-    ∙ append_assoc front (v ∷ []) (vs ++ drop (length vs) tail)
-    ∙ ap (λ s. front ++ (v ∷ (vs ++ s))) (drop-drop (length vs) (at + 1) flags ∙ ap (λ n. drop n flags) (omega arith))
+    let long : length prefix ≡ at = length-take-le at flags (omega arith) in
+    let longer : length (prefix ++ (v ∷ [])) ≡ at + 1 = omega (arith, long, length-append prefix (v ∷ [])) in
+    ap (patched (at + 1) vs) (put ∙ sym (append_assoc prefix (v ∷ []) tail))
+    ∙ patched_is (prefix ++ (v ∷ [])) tail vs (at + 1) longer
+    ∙ append_assoc prefix (v ∷ []) (vs ++ drop (length vs) tail)
+    ∙ ap (λ s. prefix ++ (v ∷ (vs ++ s))) (drop-drop (length vs) (at + 1) flags ∙ ap (λ n. drop n flags) (omega arith))
 
 -- the last state of one more predicate is read
 pub last_states-more : (pred : Pred) (rest : List Pred) (start : ℕ) (row : List Bool)
@@ -254,12 +254,12 @@ put_next : (flags next : List Bool) (at : ℕ) (v : Bool) → at < length flags 
     ≡ take at flags ++ (v ∷ drop (at + 1) flags)
     → (drop (at + 1) next ≡ drop (at + 1) flags) × (length next ≡ length flags)
 put_next flags next at v within put =
-    let front : List Bool = take at flags in
-    let long : length front ≡ at = length-take-le at flags (omega arith) in
-    let longer : length (front ++ (v ∷ [])) ≡ at + 1 = omega (arith, long, length-append front (v ∷ [])) in (
-      ap (drop (at + 1)) (put ∙ sym (append_assoc front (v ∷ []) (drop (at + 1) flags)))
-          ∙ drop_at (front ++ (v ∷ [])) (drop (at + 1) flags) (at + 1) longer,
-      omega (arith, ap length put, length-append front (v ∷ drop (at + 1) flags), long, length-drop (at + 1) flags),
+    let prefix : List Bool = take at flags in
+    let long : length prefix ≡ at = length-take-le at flags (omega arith) in
+    let longer : length (prefix ++ (v ∷ [])) ≡ at + 1 = omega (arith, long, length-append prefix (v ∷ [])) in (
+      ap (drop (at + 1)) (put ∙ sym (append_assoc prefix (v ∷ []) (drop (at + 1) flags)))
+          ∙ drop_at (prefix ++ (v ∷ [])) (drop (at + 1) flags) (at + 1) longer,
+      omega (arith, ap length put, length-append prefix (v ∷ drop (at + 1) flags), long, length-drop (at + 1) flags),
     )
 
 -- one more predicate's flag
@@ -313,7 +313,7 @@ put_truths_end refs i place row flags all past told =
     ∙ ap (λ rs. patched place (last_states (preds_in rs) row) flags) (sym (drop_all i refs past))
     ∙ told
 
--- The place of the flags lies after those before it.
+-- The flags begin after those before them.
 pub truths_put : (before inside values flags next : List Bool) (at n : ℕ) → at ≡ length before → length values ≡ n
     → flags ≡ (before ++ replicate n false) ++ inside → next ≡ patched at values flags
     → next ≡ before ++ (values ++ inside)

@@ -1,5 +1,5 @@
--- What the children of an element add to its row, one after another, is which of its states are set but the first ones;
--- and the last state of a predicate is whether it holds.
+-- The rows of its children decide all states of an element but the first of each predicate. A predicate holds where its
+-- last state is set.
 use Rattle.std.proofs.Common.{◌≡◌, suc, Bool, true, false, ◌&&◌, ◌||◌, Some, None, List, [], ◌∷◌, ◌++◌, map, reverse, length, get_or, refl, ap, sym, ◌∙◌, arith}
 use Rattle.std.specs.List.{list_any, flat_map, fold, cons_option}
 use Rattle.std.specs.Option.{option_map_or}
@@ -16,8 +16,8 @@ use Rattle.acl_model.specs.declared.document.Item.{Item}
 use Rattle.acl_model.specs.declared.path.Axis.TheVariants.{Child, Descendant}
 use Rattle.acl_model.specs.declared.path.Pred.{Pred}
 use Rattle.acl_model.specs.declared.path.PredStep.{PredStep}
-use Rattle.predicate_walk.specs.Met.{is_enough_at, is_met}
-use Rattle.predicate_walk.specs.States.{is_set_by, set_by_steps, later_states, states_at, row_at, inner_states_at, inner_row_at, is_descendant, answers_of, answers, clear_row, with_child, with_item, with_items}
+use Rattle.predicate_walk.specs.inside.Met.{is_enough_at, is_met}
+use Rattle.predicate_walk.specs.inside.States.{is_set_by, set_by_steps, later_states, states_at, row_at, inner_states_at, inner_row_at, is_descendant, answers_of, answers, clear_row, with_child, with_item, with_items}
 use Rattle.predicate_walk.proofs.PredicateLaws.{held_where_met}
 
 -- ---- Booleans
@@ -43,7 +43,7 @@ cons_same a b xs ys one more = ap (λ x. x ∷ xs) one ∙ ap (λ s. b ∷ s) mo
 
 -- ---- all states in one list
 
--- a state of a predicate: the first, of its targets, or one by a step of its way
+-- a state of a predicate: the first, that of its targets, or one by a step of its path
 data State : Type 0 where
   target : Pred → State
   step : PredStep → State
@@ -66,7 +66,7 @@ abbrev state_answers : (PredStep → Bool) → State → Bool
 state_answers ask (target pred) = false
 state_answers ask (step s) = ask s
 
--- the state that stands last, where one stands before
+-- the last of the states by steps, or the state before them where there is no step
 abbrev last_from : (Element → Bool) → List PredStep → Element → Bool
 last_from before [] = before
 last_from before (s ∷ steps) = last_from (is_set_by s before) steps
@@ -119,7 +119,7 @@ any_descendants t (x ∷ items) =
     ∙ sym (ap (λ o. list_any (λ c. t c || (true && list_any t (descendants c))) (cons_option o (children items))) (element_of-Child e)))
     x
 
--- What its children add sets a state by a step.
+-- What the children add is the state by a step.
 added_is : (s : PredStep) (before : Element → Bool) (e : Element) → list_any (adds (step s) before) (children e.items)
     ≡ is_set_by s before e
 added_is s before e =
@@ -130,7 +130,7 @@ added_is s before e =
 
 -- ---- all children
 
--- what elements add to a row, state by state
+-- what these elements add to a row, state by state
 abbrev gathered : (Element → Bool) → List State → List Bool → List Element → List Bool
 gathered before [] own cs = []
 gathered before (s ∷ states) [] cs = []
@@ -145,7 +145,7 @@ gathered-none before (s ∷ states) [] long = absurd (omega (arith, long))
 gathered-none before (s ∷ states) (o ∷ own) long =
     cons_same _ _ _ _ (or_false o) (gathered-none (is_set_at s before) states own (omega (arith, long)))
 
--- a row where one element has been taken in
+-- a row after one more element
 abbrev with_one : (Element → Bool) → List State → List Bool → Element → List Bool
 with_one before states own c =
     risen (before c) (map (state_answers (λ p. passes p.test c.name)) states)
@@ -224,7 +224,7 @@ items_are preds row (item ∷ items) =
     ∙ elim (element_of item) as (λ o. fold (with_one (λ e. false) (all_states preds)) (option_map_or (with_child preds row) o row) (children items) ≡ fold (with_one (λ e. false) (all_states preds)) row (cons_option o (children items)))
     [ None ↦ refl | Some c ↦ ap (λ r. fold (with_one (λ e. false) (all_states preds)) r (children items)) (child_is preds row c) ]
 
--- All children taken in, the row says what is inside the element.
+-- After all children the row is that of what is inside the element.
 pub inner_row : (preds : List Pred) (e : Element) → with_items preds (clear_row preds) e.items ≡ inner_row_at preds e
 unfolding inner_row_at answers
 inner_row preds e =

@@ -1,4 +1,4 @@
--- One item after another, and what stands at the end of an element.
+-- The steps of the walk: one item after another, and the end of an element.
 use Rattle.std.proofs.Common.{◌≡◌, ℕ, ◌+◌, ◌-◌, ◌<◌, ◌≤◌, suc, Bool, true, false, ◌&&◌, Option, None, Some, List, [], ◌∷◌, ◌++◌, map, length, get_or, take, drop, drop-cons, replicate, refl, ap, sym, ◌∙◌, append_assoc, append-nil, add-one, arith}
 use Rattle.std.proofs.lemmas.List.{drop_all, drop_at, take_rest, length-map}
 use Rattle.std.proofs.lemmas.List.Concat.{flat_map-append}
@@ -15,8 +15,8 @@ use Rattle.acl_model.specs.declared.document.Item.{Item}
 use Rattle.acl_model.specs.declared.document.Item.TheVariants.{Text, Child}
 use Rattle.acl_model.specs.declared.path.Pred.{Pred}
 use Rattle.predicate_walk.specs.declared.truths.PredRef.{PredRef}
-use Rattle.predicate_walk.specs.States.{number_of_states, row_at, inner_row_at, clear_row, tests_of, deep_of, with_child, with_item, with_items}
-use Rattle.predicate_walk.specs.Texts.{needs_texts, kept}
+use Rattle.predicate_walk.specs.inside.States.{number_of_states, row_at, inner_row_at, clear_row, tests_of, deep_of, with_child, with_item, with_items}
+use Rattle.predicate_walk.specs.inside.KeptTexts.{needs_texts, kept}
 use Rattle.predicate_walk.specs.Truths.{truths_at, truths, preds_in}
 use Rattle.predicate_walk.proofs.RowLaws.{length-answers, length-row_at}
 use Rattle.predicate_walk.proofs.StateLaws.{inner_row}
@@ -70,7 +70,7 @@ items_next items i item within is =
     drop-cons items i item within ∙ ap (λ x. x ∷ drop (suc i) items) (sym is)
     ∙ ap (λ n. item ∷ drop n items) (sym (add-one i))
 
--- one more item is taken in
+-- the row after one more item
 pub row_step : (preds : List Pred) (items : List Item) (i : ℕ) (item : Item) (row next all : List Bool)
     → i < length items → item ≡ get_or items i item → next ≡ with_item preds row item
     → with_items preds row (drop i items) ≡ all → with_items preds next (drop (i + 1) items) ≡ all
@@ -78,7 +78,7 @@ row_step preds items i item row next all within is more way =
     ap (λ r. with_items preds r (drop (i + 1) items)) more
     ∙ ap (with_items preds row) (sym (items_next items i item within is)) ∙ way
 
--- one more item adds what it has
+-- the texts and the flags after one more item
 pub item_step : {T : Type 0} (f : Item → List T) (items : List Item) (i : ℕ) (item : Item) (now next all : List T)
     → i < length items → item ≡ get_or items i item → next ≡ now ++ f item
     → now ++ flat_map f (drop i items) ≡ all → next ++ flat_map f (drop (i + 1) items) ≡ all
@@ -95,7 +95,7 @@ item_end f items i now all past way =
 
 -- ---- the end of an element
 
--- All items taken in, the row says what is inside the element.
+-- After all items the row is that of what is inside the element.
 pub row_end : (preds : List Pred) (e : Element) (items : List Item) (i : ℕ) (row clear : List Bool) → length items ≤ i
     → items ≡ e.items → clear ≡ clear_row preds
     → with_items preds row (drop i items) ≡ with_items preds clear items → row ≡ inner_row_at preds e
@@ -103,7 +103,7 @@ row_end preds e items i row clear past same is way =
     ap (with_items preds row) (sym (drop_all i items past)) ∙ way ∙ ap (λ c. with_items preds c items) is
     ∙ ap (with_items preds (clear_row preds)) same ∙ inner_row preds e
 
--- All its texts stand after those before it.
+-- The string-value of an element follows the texts before it.
 pub texts_end : (preds : List Pred) (e : Element) (items : List Item) (i : ℕ) (texts before : List ℕ)
     → length items ≤ i → items ≡ e.items
     → texts ++ flat_map (λ item. kept (needs_texts preds) (value_of_item item)) (drop i items)
@@ -114,7 +114,7 @@ texts_end preds e items i texts before past same way =
     ∙ ap (λ xs. before ++ flat_map (λ item. kept (needs_texts preds) (value_of_item item)) xs) same
     ∙ ap (λ s. before ++ s) (kept_is (needs_texts preds) e)
 
--- They are what stands there from its start on.
+-- It is what the list has from the element's start on.
 pub value_is : (before text texts : List ℕ) (start : ℕ) → start ≡ length before → texts ≡ before ++ text
     → take (length texts - start) (drop start texts) ≡ text
 value_is before text texts start place is =
@@ -127,7 +127,7 @@ all_truths preds (item ∷ items) =
     ap (λ s. truths preds (below_item item) ++ s) (all_truths preds items)
     ∙ sym (flat_map-append (truths_at preds) (below_item item) (flat_map below_item items))
 
--- All flags of the elements inside it stand after those before.
+-- The flags of the elements inside an element follow those before them.
 pub flags_end : (preds : List Pred) (e : Element) (items : List Item) (i : ℕ) (flags before : List Bool)
     → length items ≤ i → items ≡ e.items
     → flags ++ flat_map (λ item. truths preds (below_item item)) (drop i items)
@@ -141,7 +141,7 @@ flags_end preds e items i flags before past same way =
 pub count_is : (refs : List PredRef) (preds : List Pred) → preds_in refs ≡ preds → length refs ≡ length preds
 count_is refs preds same = sym (length-map refs (λ r. r.pred.now)) ∙ ap length same
 
--- Of no predicates there is nothing.
+-- Without predicates there are no flags.
 none_there : (es : List Element) → [] ≡ truths [] es
 none_there [] = refl
 none_there (e ∷ es) = none_there es

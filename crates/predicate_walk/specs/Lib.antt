@@ -1,5 +1,2 @@
 pub mod Truths
-pub mod Met
-pub mod States
-pub mod Texts
-pub mod NameRows
+pub mod inside

@@ -1,4 +1,4 @@
-//! Which predicates hold at which elements of a document, found for all of them by one walk.
+//! Finds which predicates hold at which elements of a document, by one walk for all of them.
 #![tactic(auto)]
 
 mod machine;

@@ -1,9 +1,9 @@
-//! What a walk keeps of its predicates. It is made once, before the walk.
+//! The tables of a walk. They are made from the predicates once, before the walk.
 
 ghost use Rattle.std.specs.Prelude.{◌≡◌, IfOk, OnOk, length, ◌++◌};
 ghost use Rattle.std.specs.List.{list_any};
-ghost use Rattle.predicate_walk.specs.States.{number_of_states, row_at, clear_row, tests_of, with_child};
-ghost use Rattle.predicate_walk.specs.Texts.{compares_element, compares_texts, needs_texts, kept};
+ghost use Rattle.predicate_walk.specs.inside.States.{number_of_states, row_at, clear_row, tests_of, with_child};
+ghost use Rattle.predicate_walk.specs.inside.KeptTexts.{compares_element, compares_texts, needs_texts, kept};
 ghost use Rattle.predicate_walk.specs.Truths.{preds_in};
 
 use crate::name_rows::find_name_rows;
@@ -16,13 +16,13 @@ use std::alloc::{AllocError, Global};
 use std::collections::HashMap;
 use std::marker::Model;
 
-/// What a walk keeps of its predicates. Contracts see the predicates.
+/// The tables of a walk. In contracts a machine is the list of its predicates.
 #[derive(Drop)]
 pub struct Machine<'a> {
     preds: &'a [PredRef<'a>],
-    /// Which states have a step to all descendants.
+    /// Which states have a step to the descendants.
     deep: Flags,
-    /// For each name that a step names, which states have a step that passes it.
+    /// For each name in a step, which states have a step that passes it.
     named: HashMap<Vec<u8>, Flags>,
     /// The same for all other names.
     others: Flags,
@@ -33,7 +33,7 @@ pub struct Machine<'a> {
 impl<'a> Model for Machine<'a> {
     ghost use Rattle.std.specs.Prelude.{List};
     ghost use Rattle.acl_model.specs.declared.path.Pred.{Pred};
-    ghost use Rattle.predicate_walk.specs.NameRows.{IsMachine};
+    ghost use Rattle.predicate_walk.specs.inside.NameRows.{IsMachine};
     ghost use Rattle.predicate_walk.specs.Truths.{preds_in};
 
     ghost Value = { List Pred };
@@ -55,7 +55,7 @@ fn does_compare_texts(pred: &Pred) -> bool
     }
 }
 
-/// Whether one of the predicates does.
+/// Whether some predicate compares the string-values of elements.
 fn do_any_compare_texts(preds: &[PredRef<'_>]) -> bool
     ensures { result ≡ list_any (λ r. compares_texts r.pred.now) preds.now }
 {
@@ -63,6 +63,7 @@ fn do_any_compare_texts(preds: &[PredRef<'_>]) -> bool
 }
 
 impl<'a> Machine<'a> {
+    /// Makes the tables for these predicates.
     pub fn new(alloc: Global, preds: &'a [PredRef<'a>]) -> Result<Machine<'a>, AllocError>
         ensures { IfOk result (λ machine. machine ≡ preds_in preds.now) }
     {
@@ -75,6 +76,7 @@ impl<'a> Machine<'a> {
         })
     }
 
+    /// The predicates, in the order in which they were passed.
     pub fn preds(&self) -> &'a [PredRef<'a>]
         ensures { preds_in result.now ≡ self.now }
     {
@@ -100,8 +102,8 @@ impl<'a> Machine<'a> {
         }
     }
 
-    /// Takes the states of a child into the row of its parent.
-    #[tactic(auto, unfolding(crate::specs::States::with_child))]
+    /// Sets the states in a parent's row that follow from the row `below` of a child.
+    #[tactic(auto, unfolding(crate::specs::inside::States::with_child))]
     pub fn take_in(&self, child: &Element, below: &Flags, row: &mut Flags)
         requires below { below.now ≡ row_at self.now child.now }
         requires row { length row.old ≡ number_of_states self.now }
@@ -110,7 +112,7 @@ impl<'a> Machine<'a> {
         row.rise(below, self.tests(child.name.as_slice()), &self.deep);
     }
 
-    /// Adds a text to those so far, where texts are needed.
+    /// Appends a text to `texts`, if some predicate compares string-values.
     pub fn keep_text(&self, bytes: &[u8], texts: &mut Vec<u8>) -> Result<(), AllocError>
         ensures { OnOk result
             (texts.new.items ≡ texts.old.items ++ kept (needs_texts self.now) bytes.now) }

@@ -1,10 +1,10 @@
-//! For each name that a step of a predicate names, which states have a step that passes it.
+//! The rows of names: for each name in a step, which states have a step that passes it.
 
 ghost use Rattle.std.specs.Prelude.{◌≡◌, nat_eq, IfOk, OnOk};
 ghost use Rattle.std.specs.Cmp.Lexicographic.{pointwise};
 ghost use Rattle.std.specs.List.{list_any};
-ghost use Rattle.predicate_walk.specs.States.{does_name};
-ghost use Rattle.predicate_walk.specs.NameRows.{AreRows, AddsRows, AreAllRows};
+ghost use Rattle.predicate_walk.specs.inside.States.{does_name};
+ghost use Rattle.predicate_walk.specs.inside.NameRows.{AreRows, AddsRows, AreAllRows};
 ghost use Rattle.predicate_walk.specs.Truths.{preds_in};
 
 use crate::question::Question;
@@ -15,7 +15,7 @@ use acl_model::{PredStep, Test};
 use std::alloc::{AllocError, Global};
 use std::collections::HashMap;
 
-/// Adds the row of a name, where the map doesn't have it.
+/// Adds the row of a name, if the map has none for it.
 fn add_name(
     alloc: Global,
     preds: &[PredRef<'_>],
@@ -37,7 +37,7 @@ fn add_name(
     }
 }
 
-/// Adds the row of the name that a step names, if it names one.
+/// Adds the row of the name in a step, if the step names one.
 fn add_step(
     alloc: Global,
     preds: &[PredRef<'_>],
@@ -54,7 +54,7 @@ fn add_step(
     }
 }
 
-/// Adds the rows of the names that the steps of a way name.
+/// Adds the rows of the names in the steps of a path.
 fn add_way(
     alloc: Global,
     preds: &[PredRef<'_>],
@@ -71,7 +71,7 @@ fn add_way(
     Ok(())
 }
 
-/// The rows of all names that a step of the predicates names.
+/// The rows of all names in steps of the predicates.
 pub fn find_name_rows(
     alloc: Global,
     preds: &[PredRef<'_>],

@@ -1,23 +1,24 @@
-//! What is asked of the steps of predicates.
+//! Questions about the steps of predicates.
 
 ghost use Rattle.std.specs.Prelude.{◌≡◌};
 ghost use Rattle.acl_model.specs.NameTests.{passes};
 ghost use Rattle.acl_model.specs.Document.{is_dummy_name};
-ghost use Rattle.predicate_walk.specs.States.{is_descendant, passes_each, does_answer};
+ghost use Rattle.predicate_walk.specs.inside.States.{is_descendant, passes_each, does_answer};
 
 use acl_model::{Axis, PredStep, Test};
 
-/// What is asked of a step.
+/// A question about a step.
 #[derive(Clone, Copy)]
 pub enum Question<'a> {
-    /// Whether it goes to all descendants.
+    /// Whether its axis is that of the descendants.
     IsDeep,
     /// Whether it passes this name.
     PassesName(&'a [u8]),
-    /// Whether it passes each name.
+    /// Whether it passes every name.
     PassesEachName,
 }
 
+/// Whether this is the name of a dummy, `-`.
 fn is_a_dummy(name: &[u8]) -> bool
     ensures { result ≡ is_dummy_name name.now }
 {
@@ -27,7 +28,7 @@ fn is_a_dummy(name: &[u8]) -> bool
     }
 }
 
-/// Whether an element of this name passes the test.
+/// Whether an element of this name passes the node test. A test of a name never passes a dummy.
 pub fn does_pass(test: &Test, name: &[u8]) -> bool
     ensures { result ≡ passes test.now name.now }
 {
@@ -37,6 +38,7 @@ pub fn does_pass(test: &Test, name: &[u8]) -> bool
     }
 }
 
+/// Whether the test passes every name.
 fn does_pass_each(test: &Test) -> bool
     ensures { result ≡ passes_each test.now }
 {
@@ -46,6 +48,7 @@ fn does_pass_each(test: &Test) -> bool
     }
 }
 
+/// Whether the axis is that of the descendants.
 fn is_deep(axis: Axis) -> bool
     ensures { result ≡ is_descendant axis }
 {
@@ -55,7 +58,7 @@ fn is_deep(axis: Axis) -> bool
     }
 }
 
-/// Whether the step is as asked.
+/// The answer to the question for this step.
 pub fn does_answer(question: Question<'_>, step: &PredStep) -> bool
     ensures { result ≡ does_answer question.entry step.now }
 {

@@ -1,7 +1,7 @@
-//! Rows of states: one flag for each state of each predicate.
+//! Rows: a *row* has one flag for each state of each predicate.
 
 ghost use Rattle.std.specs.Prelude.{◌≡◌, ◌+◌, ◌<◌, false, [], ◌∷◌, ◌++◌, IfOk, OnOk, map, reverse, length, get_or, take, drop};
-ghost use Rattle.predicate_walk.specs.States.{does_answer, answers};
+ghost use Rattle.predicate_walk.specs.inside.States.{does_answer, answers};
 ghost use Rattle.predicate_walk.specs.Truths.{preds_in};
 
 use crate::question::{Question, does_answer};
@@ -10,7 +10,7 @@ use acl_bits::Flags;
 use acl_model::PredStep;
 use std::alloc::{AllocError, Global};
 
-/// Gives a flag that is not set its value.
+/// Writes the value of a flag that is not set yet.
 pub fn put_flag(flags: &mut Flags, n: usize, is_set: bool)
     requires within { n < length flags.old }
     requires clear { get_or flags.old n false ≡ false }
@@ -21,7 +21,7 @@ pub fn put_flag(flags: &mut Flags, n: usize, is_set: bool)
     }
 }
 
-/// Adds one flag.
+/// Appends a flag of this value.
 fn push_flag(flags: &mut Flags, is_set: bool) -> Result<(), AllocError>
     ensures { OnOk result (flags.new ≡ flags.old ++ (is_set ∷ [])) }
 {
@@ -31,7 +31,7 @@ fn push_flag(flags: &mut Flags, is_set: bool) -> Result<(), AllocError>
     Ok(())
 }
 
-/// Adds a flag for each step of a way, the last step first.
+/// Appends the answer for each step, from the last step to the first.
 fn push_answers(
     flags: &mut Flags,
     question: Question<'_>,
@@ -48,7 +48,7 @@ fn push_answers(
     Ok(())
 }
 
-/// Which states of the predicates are as asked.
+/// The answer for each state of the predicates. It is false for the first state of each, which has no step.
 pub fn find_answers(
     alloc: Global,
     question: Question<'_>,

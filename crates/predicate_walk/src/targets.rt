@@ -1,11 +1,11 @@
-//! What is found at the end of an element: for which predicates it is a target that is enough, and
-//! which predicates hold there.
+//! What the walk does at the end of an element. It finds for which predicates some value of the element
+//! is enough, and which predicates hold there.
 
 ghost use Rattle.std.specs.Prelude.{◌≡◌, ◌+◌, ◌≤◌, true, false, length, replicate, take, drop};
 ghost use Rattle.acl_model.specs.Values.{string_value};
-ghost use Rattle.predicate_walk.specs.Met.{is_enough_at};
-ghost use Rattle.predicate_walk.specs.States.{number_of_states, row_at, inner_row_at, last_states, patched};
-ghost use Rattle.predicate_walk.specs.Texts.{compares_texts, needs_texts, kept};
+ghost use Rattle.predicate_walk.specs.inside.Met.{is_enough_at};
+ghost use Rattle.predicate_walk.specs.inside.States.{number_of_states, row_at, inner_row_at, last_states, patched};
+ghost use Rattle.predicate_walk.specs.inside.KeptTexts.{compares_texts, needs_texts, kept};
 ghost use Rattle.predicate_walk.specs.Truths.{preds_in};
 
 use crate::rows::put_flag;
@@ -14,8 +14,8 @@ use acl_bits::Flags;
 use acl_model::{Element, Pred};
 use value_scan::{does_satisfy, is_any_attribute_enough};
 
-/// Whether a value of the element is enough. `value` is its string-value, where the predicate
-/// compares that.
+/// Whether some value of the element is enough for the predicate. Where the predicate compares its
+/// string-value, `value` is that.
 #[tactic(auto, using(crate::proofs::PredicateLaws::enough_laws))]
 fn is_target_enough(pred: &Pred, element: &Element, value: &[u8]) -> bool
     requires { compares_texts pred.now ≡ true → value.now ≡ string_value element.now }
@@ -34,14 +34,14 @@ fn is_target_enough(pred: &Pred, element: &Element, value: &[u8]) -> bool
     }
 }
 
-/// Sets the first state of each predicate for which the element is a target that is enough.
+/// Sets the first state of each predicate for which some value of the element is enough.
 pub fn put_targets(preds: &[PredRef<'_>], element: &Element, value: &[u8], row: &mut Flags)
     requires value { value.now
         ≡ kept (needs_texts (preds_in preds.now)) (string_value element.now) }
     requires inside { row.old ≡ inner_row_at (preds_in preds.now) element.now }
     ensures { row.new ≡ row_at (preds_in preds.now) element.now }
 {
-    // All places in the row fit a usize.
+    // The length of the row fits a usize, so each index below does.
     let _ = row.len();
     let mut start = 0;
     for r in preds {
@@ -50,7 +50,7 @@ pub fn put_targets(preds: &[PredRef<'_>], element: &Element, value: &[u8], row: 
     }
 }
 
-/// Sets the flag of each predicate whose last state is set. The predicates' flags begin at `at`.
+/// Sets the flag of each predicate whose last state is set. The flags of the predicates begin at index `at`.
 pub fn put_truths(preds: &[PredRef<'_>], row: &Flags, flags: &mut Flags, at: usize)
     requires row { length row.now ≡ number_of_states (preds_in preds.now) }
     requires room { at + length preds.now ≤ length flags.old }
@@ -58,7 +58,7 @@ pub fn put_truths(preds: &[PredRef<'_>], row: &Flags, flags: &mut Flags, at: usi
         ≡ replicate (length preds.now) false }
     ensures { flags.new ≡ patched at (last_states (preds_in preds.now) row.now) flags.old }
 {
-    // All places in the row and in the flags fit a usize.
+    // The two lengths fit a usize, so each index below does.
     let _ = row.len();
     let _ = flags.len();
     let mut start = 0;

@@ -1,5 +1,5 @@
-//! Flags worked out by hand from what a predicate means: some target that its steps lead to has a
-//! value that is enough (XPath 1.0, 2.4). Lines of documents are written with `;` between them.
+//! Flags worked out by hand from the meaning of a predicate: some target that its steps lead to has a
+//! value that is enough (XPath 1.0, 2.4). A document is written as its lines with `;` between them.
 
 use super::*;
 use acl_bits::Flags;
@@ -28,6 +28,7 @@ fn add(open: &mut Vec<OpenElement>, item: Item) -> Result<(), Fail> {
     Ok(())
 }
 
+/// The element that an end tag completes.
 fn closed(open: OpenElement) -> Element {
     Element {
         name: open.name,
@@ -36,7 +37,7 @@ fn closed(open: OpenElement) -> Element {
     }
 }
 
-/// The document that these lines write.
+/// The document of these lines.
 fn document(alloc: Global, lines: &str) -> Result<Doc, Fail> {
     let mut open = Vec::new(alloc);
     let mut attributes = Vec::new(alloc);
@@ -67,8 +68,8 @@ fn document(alloc: Global, lines: &str) -> Result<Doc, Fail> {
 
 // ---- predicates, as text
 
-/// The steps of `a//b/@c`, each a child after `/` and a descendant after `//`, and the attribute at
-/// the end.
+/// The steps of a text such as `a//b/@c`, and the attribute at its end. A step after `/` is a child,
+/// and one after `//` a descendant.
 fn steps(alloc: Global, text: &str) -> Result<(Vec<PredStep>, Option<Name>), Fail> {
     let mut steps = Vec::new(alloc);
     let mut attribute = None;
@@ -102,7 +103,7 @@ fn operand(alloc: Global, text: &str) -> Result<Operand, Fail> {
     }
 }
 
-/// What stands before a comparison, and the comparison.
+/// The text before a comparison, and the comparison.
 fn split_comparison<'a>(alloc: Global, text: &'a str) -> Result<(&'a str, Option<Cmp>), Fail> {
     for (sign, op) in [
         ("!=", Op::Ne),
@@ -120,7 +121,7 @@ fn split_comparison<'a>(alloc: Global, text: &'a str) -> Result<(&'a str, Option
     Ok((text, None))
 }
 
-/// What stands between `[` and `]`.
+/// The predicate of a text such as `a//b='x'`.
 fn predicate(alloc: Global, text: &str) -> Result<Pred, Fail> {
     let (way, cmp) = split_comparison(alloc, text)?;
     let (way, attribute) = steps(alloc, way.strip_prefix('.').unwrap_or(way))?;
@@ -143,7 +144,7 @@ fn truths_of(alloc: Global, preds: &[Pred], lines: &str) -> Result<Flags, Fail> 
     Ok(find_truths(alloc, refs.as_slice(), &doc.root)?)
 }
 
-/// The same, each flag as `1` or `0`.
+/// The same as text: each flag as `1` or `0`.
 fn digits_of(alloc: Global, preds: &[Pred], lines: &str) -> Result<String, Fail> {
     let flags = truths_of(alloc, preds, lines)?;
     let mut digits = String::new(alloc);
@@ -153,7 +154,7 @@ fn digits_of(alloc: Global, preds: &[Pred], lines: &str) -> Result<String, Fail>
     Ok(digits)
 }
 
-/// Elements of these names, each inside the one before, with a text in the innermost.
+/// The lines of this many elements, each inside the one before, with a text in the innermost.
 fn nested(alloc: Global, name: &str, depth: usize, text: &str) -> Result<String, Fail> {
     let mut lines = String::new(alloc);
     for _ in 0..depth {
@@ -170,7 +171,7 @@ fn nested(alloc: Global, name: &str, depth: usize, text: &str) -> Result<String,
 const MIXED: &str = "(r;-1;(n;-2;)n;-3;(n;-4;(m;-5;)m;-6;)n;-7;)r";
 
 /// An `a` inside an `a`, both with a `b`.
-const BEARERS: &str = "(a;(a;(b;-y;)b;)a;(b;-x;)b;)a";
+const NESTED: &str = "(a;(a;(b;-y;)b;)a;(b;-x;)b;)a";
 
 /// The second `b` has an attribute `id` without a value.
 const ATTRIBUTES: &str = "Aid CDATA 7;(a;Aid CDATA 8;Akind TOKEN x;(b;)b;Aid IMPLIED;(b;)b;)a";
@@ -181,21 +182,21 @@ fn a_predicate_holds_where_some_target_is_enough(rt: HostRuntime) -> Result<(), 
     let alloc = rt.alloc();
     for (lines, text, flags) in [
         // a, a, b, b
-        (BEARERS, ".", "1111"),
-        (BEARERS, "*", "1100"),
-        (BEARERS, "a", "1000"),
-        (BEARERS, "c", "0000"),
-        (BEARERS, "b='x'", "1000"),
-        (BEARERS, "b='y'", "0100"),
-        (BEARERS, ".//b='x'", "1000"),
-        (BEARERS, ".//b='y'", "1100"),
-        (BEARERS, "a/b='y'", "1000"),
-        (BEARERS, "a/b='x'", "0000"),
-        (BEARERS, ".//a//b='y'", "1000"),
-        (BEARERS, ".//*//b", "1000"),
-        (BEARERS, ".='x'", "0001"),
-        (BEARERS, ".='yx'", "1000"),
-        (BEARERS, "b!='y'", "1000"),
+        (NESTED, ".", "1111"),
+        (NESTED, "*", "1100"),
+        (NESTED, "a", "1000"),
+        (NESTED, "c", "0000"),
+        (NESTED, "b='x'", "1000"),
+        (NESTED, "b='y'", "0100"),
+        (NESTED, ".//b='x'", "1000"),
+        (NESTED, ".//b='y'", "1100"),
+        (NESTED, "a/b='y'", "1000"),
+        (NESTED, "a/b='x'", "0000"),
+        (NESTED, ".//a//b='y'", "1000"),
+        (NESTED, ".//*//b", "1000"),
+        (NESTED, ".='x'", "0001"),
+        (NESTED, ".='yx'", "1000"),
+        (NESTED, "b!='y'", "1000"),
         // r, n, n, m
         (MIXED, ".=1234567", "1000"),
         (MIXED, ".=456", "0010"),
@@ -225,25 +226,25 @@ fn a_predicate_holds_where_some_target_is_enough(rt: HostRuntime) -> Result<(), 
     Ok(())
 }
 
-// At each element stand the flags of all predicates, in their order.
+// Each element has the flags of all predicates, in their order.
 #[test]
-fn flags_stand_by_element_and_predicate(rt: HostRuntime) -> Result<(), Fail> {
+fn flags_are_ordered_by_element_and_predicate(rt: HostRuntime) -> Result<(), Fail> {
     let alloc = rt.alloc();
     let preds = [
         predicate(alloc, ".//b='y'")?,
         predicate(alloc, "b='x'")?,
         predicate(alloc, ".")?,
     ];
-    let digits = digits_of(alloc, preds.as_slice(), BEARERS)?;
+    let digits = digits_of(alloc, preds.as_slice(), NESTED)?;
     assert_eq!(rt; digits.as_str(), "111101001001");
-    let digits = digits_of(alloc, &[], BEARERS)?;
+    let digits = digits_of(alloc, &[], NESTED)?;
     assert_eq!(rt; digits.as_str(), "");
     Ok(())
 }
 
-/// 66 steps `/a` over 70 nested `a`: they lead to an element from the first four.
+/// 66 steps `/a` over 70 nested `a`. They lead to an element from the first four.
 #[test]
-fn a_way_may_be_longer_than_a_word(rt: HostRuntime) -> Result<(), Fail> {
+fn a_path_may_have_more_than_64_steps(rt: HostRuntime) -> Result<(), Fail> {
     let alloc = rt.alloc();
     let mut text = String::from_str(alloc, "a")?;
     for _ in 0..65 {
@@ -259,7 +260,7 @@ fn a_way_may_be_longer_than_a_word(rt: HostRuntime) -> Result<(), Fail> {
     Ok(())
 }
 
-/// Of 200 predicates `.=0`, `.=1`, .. the one of the text's number holds, at both elements.
+/// There are 200 predicates `.=0`, `.=1` and so on. The one with the number of the text holds, at both elements.
 #[test]
 fn there_may_be_more_predicates_than_a_word_has_bits(rt: HostRuntime) -> Result<(), Fail> {
     let alloc = rt.alloc();
@@ -275,8 +276,8 @@ fn there_may_be_more_predicates_than_a_word_has_bits(rt: HostRuntime) -> Result<
     Ok(())
 }
 
-/// Seven steps `//a` over 255 nested `a`, in more ways than can be tried. They lead to a target where
-/// seven more are inside.
+/// Seven steps `//a` over 255 nested `a`: too many combinations to try each. They lead to a target
+/// from each element with at least seven more inside it.
 #[test]
 fn many_descendant_steps_end_at_once(rt: HostRuntime) -> Result<(), Fail> {
     let alloc = rt.alloc();
@@ -293,7 +294,7 @@ fn many_descendant_steps_end_at_once(rt: HostRuntime) -> Result<(), Fail> {
     Ok(())
 }
 
-// `*` passes each name, and a name itself alone and never that of a dummy (XPath 1.0, 2.3).
+// `*` passes every name. A name passes itself alone, and never the name of a dummy (XPath 1.0, 2.3).
 #[test]
 fn a_test_passes_its_name(rt: HostRuntime) -> Result<(), Fail> {
     let alloc = rt.alloc();

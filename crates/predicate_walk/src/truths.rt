@@ -1,4 +1,4 @@
-//! Which of many predicates hold at an element and at each element inside it.
+//! Finds which of many predicates hold at an element and at each element inside it.
 
 ghost use Rattle.std.specs.Prelude.{◌≡◌, ◌∷◌, IfOk};
 ghost use Rattle.acl_model.specs.Predicates.{descendants};
@@ -11,14 +11,14 @@ use acl_model::{Element, Pred};
 use acl_outside::NoMemory;
 use std::alloc::Global;
 
-/// A predicate of a path.
+/// A reference to a predicate.
 #[derive(Clone, Copy)]
 pub struct PredRef<'a> {
     pub pred: &'a Pred,
 }
 
-/// Which of these predicates hold at an element and at each element inside it: for each element, in
-/// document order, a flag for each predicate, in their order.
+/// Finds which of these predicates hold at an element and at each element inside it. The elements are in
+/// document order, and each has a flag for each predicate, in the order of `preds`.
 pub fn find_truths(alloc: Global, preds: &[PredRef<'_>], root: &Element) -> Result<Flags, NoMemory>
     ensures { IfOk result
         (λ flags. flags ≡ truths (preds_in preds.now) (root.now ∷ descendants root.now)) }

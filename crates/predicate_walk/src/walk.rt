@@ -1,11 +1,10 @@
-//! The walk: each element's row of states is made from the rows of its children, from the innermost
-//! element out.
+//! The walk over the tree. It makes the row of each element from the rows of its children, bottom up.
 
 ghost use Rattle.std.specs.Prelude.{◌≡◌, ◌∷◌, ◌++◌, IfOk, OnOk, length};
 ghost use Rattle.acl_model.specs.Predicates.{descendants, below_item};
 ghost use Rattle.acl_model.specs.Values.{string_value, value_of_item};
-ghost use Rattle.predicate_walk.specs.States.{number_of_states, row_at, with_item};
-ghost use Rattle.predicate_walk.specs.Texts.{needs_texts, kept};
+ghost use Rattle.predicate_walk.specs.inside.States.{number_of_states, row_at, with_item};
+ghost use Rattle.predicate_walk.specs.inside.KeptTexts.{needs_texts, kept};
 ghost use Rattle.predicate_walk.specs.Truths.{truths};
 
 use crate::machine::Machine;
@@ -14,8 +13,8 @@ use acl_bits::Flags;
 use acl_model::{Element, Item};
 use std::alloc::{AllocError, Global};
 
-/// Adds the texts of an element, and the flags of the element and of those inside it. Returns the
-/// element's row.
+/// Appends the string-value of an element to `texts`, if some predicate compares string-values. Appends
+/// the flags of the element and of those inside it to `flags`. Returns the element's row.
 #[cycle(walk)]
 pub fn walk_element(
     alloc: Global,
@@ -42,8 +41,8 @@ pub fn walk_element(
     Ok(row)
 }
 
-/// Adds the texts of an item and the flags of the elements in it. Takes it into the row of the
-/// element around it.
+/// Does the same for an item. The row of a child is not returned: it goes into `row`, the row of the
+/// element around the item.
 #[cycle(walk)]
 #[tactic(auto, using(crate::proofs::WalkLaws::item_equations))]
 fn walk_item(

@@ -1,4 +1,4 @@
--- The states at an element take just the rules whose paths select it.
+-- The states at an element select exactly the rules whose paths select it.
 use Rattle.std.proofs.Common.{◌≡◌, ℕ, zero, suc, ◌+◌, ◌<◌, ◌≤◌, Bool, true, false, cond, ◌&&◌, ◌||◌, Some, None, List, [], ◌∷◌, ◌++◌, length, refl, ap, sym, ◌∙◌, arith}
 use Rattle.std.specs.Prelude.{nat_eq}
 use Rattle.std.specs.Cmp.{first_so, second_so}
@@ -22,21 +22,21 @@ use Rattle.acl_model.specs.declared.path.Step.{Step}
 use Rattle.acl_model.specs.declared.path.Test.{Test}
 use Rattle.acl_model.specs.declared.rule.Rule.{Rule}
 use Rattle.rule_automata.specs.declared.state.State.{State}
-use Rattle.rule_automata.specs.Compile.{tag_test, ends_behind, rule_states, states_from, is_empty_of, have_no_predicates}
+use Rattle.rule_automata.specs.Compile.{tag_test, ends_after, rule_states, states_from, is_empty_of, have_no_predicates}
 use Rattle.rule_automata.specs.Run.{Standing, passes_tag, waits_below, begun, moved, run, is_rule, is_selected_by}
 use Rattle.rule_automata.specs.Meaning.{AreTagsOf}
 use Rattle.rule_automata.proofs.TagLaws.{passes_tag-name}
 
--- ---- the states that a chain of elements gives
+-- ---- the states at an element, computed from the chain of elements
 
--- the states of a rule at a chain, where the steps before lead to the set
+-- the states of a rule at a chain, where the steps before them lead to this set
 abbrev standing_at : List (List ℕ) → ℕ → ChainSet → List Step → Chain → List Standing
 standing_at names rule set [] chain = []
 standing_at names rule set (s ∷ more) chain =
     record {
-      state = record { axis = s.axis; test = tag_test names s.test; ends = ends_behind rule more };
+      state = record { axis = s.axis; test = tag_test names s.test; ends = ends_after rule more };
       waits = leads_below s.axis set chain;
-      selects = cond (chain_step s set chain) (ends_behind rule more) None;
+      selects = cond (chain_step s set chain) (ends_after rule more) None;
     } ∷ standing_at names rule (chain_step s set) more chain
 
 -- the states of all rules at a chain
@@ -69,13 +69,13 @@ rules_begin : (names : List (List ℕ)) (rules : List Rule) (n : ℕ) → begun 
 rules_begin names [] n = refl
 rules_begin names (r ∷ rules) n = rule_begins names n r.path.steps (states_from names (n + 1) rules) (row_at names (n + 1) rules []) (rules_begin names rules (n + 1))
 
--- ---- one element further down
+-- ---- from an element to a child
 
 waits_is : (axis : Axis) (set : ChainSet) (e : Element) (up : Chain) (before : Bool) → before ≡ set (e ∷ up) → waits_below axis before (leads_below axis set up) ≡ leads_below axis set (e ∷ up)
 waits_is Child set e up before is = is
 waits_is Descendant set e up before is = ap (λ b. b || leads_below Descendant set up) is
 
--- The steps have no predicate, and the tag passes their tests where the element does.
+-- The steps have no predicate, and the tag passes the tests of exactly the steps that the element passes.
 keeps_is : (names : List (List ℕ)) (tag : ℕ) (e : Element) (axis : Axis) (test : Test) (preds : List Pred) → is_empty_of preds ≡ true → passes_tag (tag_test names test) tag ≡ passes test e.name
     → passes_tag (tag_test names test) tag ≡ (passes test e.name && list_all (λ pred. holds pred e) preds)
 keeps_is names tag e axis test [] plain same = same ∙ sym (and-true (passes test e.name))
@@ -135,7 +135,7 @@ rules_move names tag e up same (r ∷ rules) n plain =
     (first_so (list_all (λ s. is_empty_of s.preds) r.path.steps) (have_no_predicates rules) plain)
     (rules_move names tag e up same rules (n + 1) (second_so (list_all (λ s. is_empty_of s.preds) r.path.steps) (have_no_predicates rules) plain))
 
--- the states after the tags of a chain are those of the chain
+-- the states that run computes from the tags of a chain are those computed from the chain
 run_is : (names : List (List ℕ)) (rules : List Rule) → are_distinct names ≡ true → length names ≤ 256 → have_no_predicates rules ≡ true
     → (tags : List ℕ) (chain : Chain) → AreTagsOf names tags chain → run (states_from names 0 rules) tags ≡ row_at names 0 rules chain
 run_is names rules distinct few plain [] [] tagged = rules_begin names rules 0
@@ -145,9 +145,9 @@ run_is names rules distinct few plain (tag ∷ tags) (e ∷ up) tagged =
     ap (moved tag false) (run_is names rules distinct few plain tags up tagged.1)
     ∙ rules_move names tag e up (λ test. passes_tag-name names test tag e.name distinct few tagged.0) rules 0 plain
 
--- ---- which rules are taken
+-- ---- which rules select
 
--- whether a state takes this rule
+-- whether a state says that this rule selects
 abbrev takes : ℕ → Standing → Bool
 takes rule m = is_rule rule m.selects
 
@@ -166,13 +166,13 @@ steps_take names rule number set s (t ∷ more) chain rest =
     ap (λ b. b || list_any (takes rule) (standing_at names number (chain_step s set) (t ∷ more) chain ++ rest)) (never_none rule (chain_step s set chain))
     ∙ steps_take names rule number (chain_step s set) t more chain rest
 
--- a rule's states take it where its path selects the element, and no other rule
+-- the states of a rule select it exactly where its path selects the element, and no other rule
 rule_takes : (names : List (List ℕ)) (rule number : ℕ) (steps : List Step) (e : Element) (up : Chain) (rest : List Standing)
     → list_any (takes rule) (standing_at names number is_virtual_root steps (e ∷ up) ++ rest) ≡ ((nat_eq number rule && chain_steps steps is_virtual_root (e ∷ up)) || list_any (takes rule) rest)
 rule_takes names rule number [] e up rest = ap (λ b. b || list_any (takes rule) rest) (sym (and-false (nat_eq number rule)))
 rule_takes names rule number (s ∷ more) e up rest = steps_take names rule number is_virtual_root s more (e ∷ up) rest
 
--- no rule of a smaller number is taken
+-- no rule with a smaller number is selected
 smaller_none : (names : List (List ℕ)) (rules : List Rule) (rule n : ℕ) (e : Element) (up : Chain) → rule < n → list_any (takes rule) (row_at names n rules (e ∷ up)) ≡ false
 smaller_none names [] rule n e up less = refl
 smaller_none names (r ∷ rules) rule n e up less =
@@ -185,7 +185,7 @@ or_none : (b c : Bool) → c ≡ false → (b || c) ≡ b
 or_none true c none = refl
 or_none false c none = none
 
--- rule n + k, where the first rule has the number n
+-- the same of rule n + k, where the first rule has the number n
 rules_take : (names : List (List ℕ)) (rules : List Rule) (n k : ℕ) (e : Element) (up : Chain)
     → list_any (takes (n + k)) (row_at names n rules (e ∷ up)) ≡ option_map_or (λ r. selects r.path (e ∷ up)) (slice_get rules k) false
 unfolding selects
@@ -203,7 +203,7 @@ rules_take names (r ∷ rules) n (suc k) e up =
     ∙ ap (λ m. list_any (takes m) (row_at names (n + 1) rules (e ∷ up))) next
     ∙ rules_take names rules (n + 1) k e up
 
--- The states take a rule just where its path selects the element.
+-- The states select a rule exactly where its path selects the element.
 pub selected_is : (names : List (List ℕ)) (rules : List Rule) (tags : List ℕ) (e : Element) (up : Chain) (rule : ℕ)
     → are_distinct names ≡ true → length names ≤ 256 → have_no_predicates rules ≡ true → AreTagsOf names tags (e ∷ up)
     → is_selected_by (states_from names 0 rules) tags rule ≡ option_map_or (λ r. selects r.path (e ∷ up)) (slice_get rules rule) false
@@ -213,7 +213,7 @@ selected_is names rules tags e up rule distinct few plain tagged =
     ∙ ap (λ m. list_any (takes m) (row_at names 0 rules (e ∷ up))) same
     ∙ rules_take names rules 0 rule e up
 
--- The same by the element's place in a document.
+-- The same for an element's place in a document.
 pub selected_at : (names : List (List ℕ)) (rules : List Rule) (tags : List ℕ) (d : Doc) (place : List ℕ) (e : Element) (up : Chain) (rule : ℕ)
     → are_distinct names ≡ true → length names ≤ 256 → have_no_predicates rules ≡ true → AreTagsOf names tags (e ∷ up) → chain_at d.root [] place ≡ Some (e ∷ up)
     → is_selected_by (states_from names 0 rules) tags rule ≡ option_map_or (λ r. select d r.path place) (slice_get rules rule) false

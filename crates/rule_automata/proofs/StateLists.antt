@@ -1,4 +1,4 @@
--- The states of rules, one step or one rule after another, and that each rule ends.
+-- The states of rules, step by step and rule by rule; each rule ends with one of its states.
 use Rattle.std.proofs.Common.{◌≡◌, ℕ, zero, suc, ◌+◌, ◌<◌, ◌≤◌, Bool, true, false, cond, eqb, ltb, not, ◌&&◌, ◌||◌, Option, Some, None, List, [], ◌∷◌, ◌++◌, length, length-append, get_or, drop, drop-cons, add-one, refl, ap, sym, ◌∙◌, arith}
 use Rattle.std.specs.Bool.{then_some}
 use Rattle.std.specs.List.{slice_get}
@@ -8,26 +8,26 @@ use Rattle.std.proofs.lemmas.List.{drop_all, append-nil, append_assoc}
 use Rattle.std.proofs.lemmas.List.Sums.{sum_by-cons}
 use Rattle.std.proofs.lemmas.Option.{slice_get-get_or}
 use Rattle.acl_bits.specs.Row.{row_of, is_member}
-use Rattle.acl_bits.specs.RowLaws.{row_of-same, is_member-row_of}
+use Rattle.acl_bits.specs.inside.RowLaws.{row_of-same, is_member-row_of}
 use Rattle.acl_model.specs.Explain.{is_same_sign}
-use Rattle.acl_model.specs.Rules.{numbers_of, numbers_of_sign}
+use Rattle.acl_model.specs.RuleNumbers.{numbers_of, numbers_of_sign}
 use Rattle.acl_model.specs.declared.path.Step.{Step}
 use Rattle.acl_model.specs.declared.rule.Rule.{Rule}
 use Rattle.acl_model.specs.declared.rule.Sign.{Sign}
 use Rattle.rule_automata.specs.declared.state.State.{State}
-use Rattle.rule_automata.specs.Compile.{tag_test, ends_behind, rule_states, states_from, steps_in, is_closed}
+use Rattle.rule_automata.specs.Compile.{tag_test, ends_after, rule_states, states_from, steps_in, is_closed}
 
--- a rule ends where no step is behind
-ends_where_last : (rule : ℕ) (steps : List Step) (k : ℕ) → k < length steps → ends_behind rule (drop (k + 1) steps) ≡ then_some (eqb (k + 1) (length steps)) rule
+-- a rule ends with the step after which there is none
+ends_where_last : (rule : ℕ) (steps : List Step) (k : ℕ) → k < length steps → ends_after rule (drop (k + 1) steps) ≡ then_some (eqb (k + 1) (length steps)) rule
 ends_where_last rule [] k inside = absurd (omega arith)
 ends_where_last rule (s ∷ []) zero inside = refl
 ends_where_last rule (s ∷ t ∷ steps) zero inside =
     let apart : false ≡ eqb (0 + 1) (length (s ∷ t ∷ steps)) = grind (arith, nat_tests) in ap (λ b. then_some b rule) apart
 ends_where_last rule (s ∷ steps) (suc k) inside =
     let more : suc k + 1 ≡ suc (k + 1) = omega arith in
-    ap (λ n. ends_behind rule (drop n (s ∷ steps))) more ∙ ends_where_last rule steps k (omega arith) ∙ ap (λ b. then_some b rule) (grind (arith, nat_tests))
+    ap (λ n. ends_after rule (drop n (s ∷ steps))) more ∙ ends_where_last rule steps k (omega arith) ∙ ap (λ b. then_some b rule) (grind (arith, nat_tests))
 
--- the states of the steps from step k on, by step k and those behind it
+-- the states of the steps from step k on, from that of step k and those of the later steps
 pub rule_states-drop : (names : List (List ℕ)) (rule : ℕ) (steps : List Step) (k : ℕ) (s : Step) → k < length steps → s ≡ get_or steps k s
     → rule_states names rule (drop k steps) ≡ record { axis = s.axis; test = tag_test names s.test; ends = then_some (eqb (k + 1) (length steps)) rule } ∷ rule_states names rule (drop (k + 1) steps)
 rule_states-drop names rule steps k s inside is =
@@ -41,7 +41,7 @@ rule_states-drop_all names rule steps k past = ap (rule_states names rule) (drop
 
 pub ruleset state_steps = (rule_states-drop, rule_states-drop_all, append_assoc, append-nil)
 
--- the states of the rules from number k on, by rule k and those behind it
+-- the states of the rules from number k on, from those of rule k and of the later rules
 pub states_from-drop : (names : List (List ℕ)) (rules : List Rule) (k : ℕ) (r : Rule) → k < length rules → r ≡ get_or rules k r
     → states_from names k (drop k rules) ≡ rule_states names k r.path.steps ++ states_from names (k + 1) (drop (k + 1) rules)
 states_from-drop names rules k r inside is =
@@ -52,7 +52,7 @@ states_from-drop names rules k r inside is =
 pub states_from-drop_all : (names : List (List ℕ)) (rules : List Rule) (k : ℕ) → length rules ≤ k → states_from names k (drop k rules) ≡ []
 states_from-drop_all names rules k past = ap (states_from names k) (drop_all k rules past)
 
--- one state a step
+-- there is one state for each step
 length-rule_states : (names : List (List ℕ)) (rule : ℕ) (steps : List Step) → length (rule_states names rule steps) ≡ length steps
 length-rule_states names rule [] = refl
 length-rule_states names rule (s ∷ steps) = ap suc (length-rule_states names rule steps)
@@ -67,14 +67,14 @@ length-states_from names (r ∷ rules) n =
     let counted : steps_in (r ∷ rules) ≡ length r.path.steps + steps_in rules = sum_by-cons (λ x. length x.path.steps) r rules in
     omega arith
 
--- each rule ends
-closed_behind : (names : List (List ℕ)) (rule : ℕ) (s : Step) (steps : List Step) (rest : List State) (is_begun : Bool) → is_closed is_begun (rule_states names rule (s ∷ steps) ++ rest) ≡ is_closed false rest
-closed_behind names rule s [] rest is_begun = refl
-closed_behind names rule s (t ∷ steps) rest is_begun = closed_behind names rule t steps rest true
+-- each rule ends with one of its states
+closed_after : (names : List (List ℕ)) (rule : ℕ) (s : Step) (steps : List Step) (rest : List State) (is_begun : Bool) → is_closed is_begun (rule_states names rule (s ∷ steps) ++ rest) ≡ is_closed false rest
+closed_after names rule s [] rest is_begun = refl
+closed_after names rule s (t ∷ steps) rest is_begun = closed_after names rule t steps rest true
 
 closed_rule : (names : List (List ℕ)) (rule : ℕ) (steps : List Step) (rest : List State) → is_closed false rest ≡ true → is_closed false (rule_states names rule steps ++ rest) ≡ true
 closed_rule names rule [] rest closed = closed
-closed_rule names rule (s ∷ steps) rest closed = closed_behind names rule s steps rest false ∙ closed
+closed_rule names rule (s ∷ steps) rest closed = closed_after names rule s steps rest false ∙ closed
 
 pub closed-states_from : (names : List (List ℕ)) (rules : List Rule) (n : ℕ) → is_closed false (states_from names n rules) ≡ true
 closed-states_from names [] n = refl
@@ -88,7 +88,7 @@ pub ruleset table_steps = (states_from-drop, states_from-drop_all, length-states
 abbrev has_sign : Sign → List Rule → ℕ → Bool
 has_sign sign rules n = option_map_or (λ r. is_same_sign r.sign sign) (slice_get rules n) false
 
--- those before rule n
+-- the numbers of the rules of a sign below n
 abbrev pub numbers_before : Sign → List Rule → ℕ → List ℕ
 numbers_before sign rules n = row_of (λ m. ltb m n && has_sign sign rules m)
 
@@ -128,7 +128,7 @@ numbers-pass sign rules n r inside is same =
     row_of-same (λ m. ltb m n && has_sign sign rules m) (λ m. ltb m (n + 1) && has_sign sign rules m)
     (λ m small. none_more (has_sign sign rules) n m (has_sign_at sign rules n r false inside is same))
 
--- no rule is behind the last
+-- there is no rule after the last
 past_none : (sign : Sign) (rules : List Rule) (m : ℕ) → length rules ≤ m → has_sign sign rules m ≡ false
 past_none sign [] m past = refl
 past_none sign (r ∷ rules) zero past = absurd (omega arith)
@@ -149,7 +149,7 @@ pub ruleset number_steps = (numbers-none, numbers-all)
 
 -- ---- counts of steps
 
--- the steps of the rules from number k on, by those of rule k and of the rules behind it
+-- the steps of the rules from number k on, from those of rule k and of the later rules
 pub steps_in-drop : (rules : List Rule) (k : ℕ) (r : Rule) → k < length rules → r ≡ get_or rules k r → steps_in (drop k rules) ≡ length r.path.steps + steps_in (drop (k + 1) rules)
 steps_in-drop rules k r inside is =
     ap steps_in (drop-cons rules k r inside)

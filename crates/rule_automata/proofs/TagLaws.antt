@@ -1,4 +1,4 @@
--- A tag passes the test of a step just where the name that it stands for does.
+-- A tag passes the test of a step exactly where the tag's name does.
 use Rattle.std.proofs.Common.{◌≡◌, ℕ, zero, suc, ◌+◌, ◌<◌, ◌≤◌, Bool, true, false, cond, ltb, not, ◌&&◌, ◌||◌, Option, Some, None, List, [], ◌∷◌, ◌++◌, length, refl, ap, sym, subst, ◌∙◌, arith}
 use Rattle.std.specs.Prelude.{nat_eq}
 use Rattle.std.specs.Cmp.{first_so, second_so}
@@ -49,7 +49,7 @@ not_false false h = refl
 
 -- ---- distinct names
 
--- a name among new ones is none of those before them
+-- where no name of the second list is in the first, a member of the second is none of the first
 new_is_none_before : (before names : List (List ℕ)) (k : ℕ) (name : List ℕ) → are_new before names ≡ true → slice_get names k ≡ Some name → has_name before name ≡ false
 new_is_none_before before [] k name new found = absurd (none_is_not_some name found)
 new_is_none_before before (x ∷ names) zero name new found =
@@ -59,24 +59,24 @@ new_is_none_before before (x ∷ names) (suc k) name new found =
     (sym (list_any-append (pointwise nat_eq name) before (x ∷ []))
     ∙ new_is_none_before (before ++ (x ∷ [])) names k name (second_so (not (has_name before x)) (are_new (before ++ (x ∷ [])) names) new) found)
 
--- nor the first of them, where it stands behind it
+-- where names are distinct, a name after the first is not the first
 later_is_other : (before names : List (List ℕ)) (x name : List ℕ) (k : ℕ) → are_new (before ++ (x ∷ [])) names ≡ true → slice_get names k ≡ Some name → pointwise nat_eq name x ≡ false
 later_is_other before names x name k new found =
     left_false (pointwise nat_eq name x) false
     (right_false (has_name before name) (has_name (x ∷ []) name)
     (sym (list_any-append (pointwise nat_eq name) before (x ∷ [])) ∙ new_is_none_before (before ++ (x ∷ [])) names k name new found))
 
--- no place is found before the first that is looked at
-behind_start : (test : List ℕ → Bool) (names : List (List ℕ)) (a b : ℕ) → b < a → option_map_or (λ k. nat_eq k b) (position_from test a names) false ≡ false
-behind_start test [] a b less = refl
-behind_start test (x ∷ names) a b less =
+-- a position that is found is not before the first one searched
+after_start : (test : List ℕ → Bool) (names : List (List ℕ)) (a b : ℕ) → b < a → option_map_or (λ k. nat_eq k b) (position_from test a names) false ≡ false
+after_start test [] a b less = refl
+after_start test (x ∷ names) a b less =
     let apart : nat_eq a b ≡ false = grind (arith, nat_tests) in
     elim (test x) as (λ v. option_map_or (λ k. nat_eq k b) (cond v (Some a) (position_from test (a + 1) names)) false ≡ false) [
       | true ↦ apart
-      | false ↦ behind_start test names (a + 1) b (omega arith)
+      | false ↦ after_start test names (a + 1) b (omega arith)
     ]
 
--- A name is found at the place of another just where the two are the same, among distinct names.
+-- Among distinct names, a name is found at the position of another exactly where the two are the same.
 found_at : (wanted : List ℕ) (before names : List (List ℕ)) (a k : ℕ) (name : List ℕ) → are_new before names ≡ true → slice_get names k ≡ Some name
     → option_map_or (λ n. nat_eq n (a + k)) (position_from (pointwise nat_eq wanted) a names) false ≡ pointwise nat_eq wanted name
 found_at wanted before [] a k name new found = absurd (none_is_not_some name found)
@@ -84,7 +84,7 @@ found_at wanted before (x ∷ names) a zero name new found =
     let here : nat_eq a (a + 0) ≡ true = grind (arith, nat_tests) in
     elim (pointwise nat_eq wanted x) as (λ v. pointwise nat_eq wanted x ≡ v → option_map_or (λ n. nat_eq n (a + 0)) (cond v (Some a) (position_from (pointwise nat_eq wanted) (a + 1) names)) false ≡ pointwise nat_eq wanted name) [
       | true ↦ λ is. here ∙ sym is ∙ ap (pointwise nat_eq wanted) (same_Some x name found)
-      | false ↦ λ is. behind_start (pointwise nat_eq wanted) names (a + 1) (a + 0) (omega arith) ∙ sym is ∙ ap (pointwise nat_eq wanted) (same_Some x name found)
+      | false ↦ λ is. after_start (pointwise nat_eq wanted) names (a + 1) (a + 0) (omega arith) ∙ sym is ∙ ap (pointwise nat_eq wanted) (same_Some x name found)
     ] refl
 found_at wanted before (x ∷ names) a (suc k) name new found =
     let rest : are_new (before ++ (x ∷ [])) names ≡ true = second_so (not (has_name before x)) (are_new (before ++ (x ∷ [])) names) new in
@@ -107,7 +107,7 @@ number_test : (o : Option ℕ) (tag : ℕ) → passes_tag (option_map_or Only o 
 number_test None tag = refl
 number_test (Some k) tag = refl
 
--- no name's number is a dummy's tag
+-- the number of a name is never a dummy's tag
 no_dummy_number : (wanted : List ℕ) (names : List (List ℕ)) (tag : ℕ) → length names ≤ tag → option_map_or (λ k. nat_eq k tag) (name_number names wanted) false ≡ false
 no_dummy_number wanted names tag few =
     let place : ℕ = position_or_len (pointwise nat_eq wanted) names in
@@ -116,7 +116,7 @@ no_dummy_number wanted names tag few =
       | false ↦ λ is. refl
     ] refl
 
--- the tag of a name passes just where the name is the wanted one
+-- the tag of a name passes exactly where the name is the wanted one
 numbered_test : (names : List (List ℕ)) (wanted : List ℕ) (tag : ℕ) (name : List ℕ) (b : Bool) → are_distinct names ≡ true → length names ≤ 256
     → nat_eq tag 256 ≡ b → cond b (Some (hyphen ∷ [])) (slice_get names tag) ≡ Some name → is_dummy_name wanted ≡ false
     → option_map_or (λ k. nat_eq k tag) (name_number names wanted) false ≡ (pointwise nat_eq wanted name && not (is_dummy_name name))
@@ -139,7 +139,7 @@ dummy_passes_none : (wanted name : List ℕ) (b : Bool) → pointwise nat_eq wan
 dummy_passes_none wanted name true same dummy = ap not (sym dummy ∙ ap is_dummy_name (same_bytes wanted name same))
 dummy_passes_none wanted name false same dummy = refl
 
--- a tag passes the test of a step just where its name does
+-- a tag passes the test of a step exactly where its name does
 pub passes_tag-name : (names : List (List ℕ)) (test : Test) (tag : ℕ) (name : List ℕ) → are_distinct names ≡ true → length names ≤ 256 → tag_name names tag ≡ Some name
     → passes_tag (tag_test names test) tag ≡ passes test name
 passes_tag-name names Any tag name distinct few is = refl

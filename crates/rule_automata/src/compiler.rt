@@ -5,7 +5,7 @@ ghost use Rattle.acl_model.specs.Limits.{most_names, most_rules};
 ghost use Rattle.acl_model.specs.Dictionary.{name_number};
 ghost use Rattle.acl_model.specs.Document.{is_dummy_name};
 ghost use Rattle.acl_model.specs.Explain.{is_same_sign};
-ghost use Rattle.acl_model.specs.Rules.{numbers_of_sign};
+ghost use Rattle.acl_model.specs.RuleNumbers.{numbers_of_sign};
 ghost use Rattle.rule_automata.specs.Compile.{AreWithinLimits, automata_of, rule_states, tag_test};
 
 use crate::state::{State, TagTest};
@@ -15,7 +15,7 @@ use acl_model::{Name, Rule, Sign, Step, Test};
 use acl_outside::NoMemory;
 use std::alloc::{AllocError, Global};
 
-/// The tables of rules without predicates, where a tag is the number of a name.
+/// The tables of rules without predicates. A tag is the number of a name among `names`.
 #[tactic(auto, using(crate::proofs::StateLists::table_steps))]
 pub fn compile(alloc: Global, rules: &[Rule], names: &[Name]) -> Result<Tables, NoMemory>
     requires { AreWithinLimits names.now rules.now }
@@ -32,7 +32,7 @@ pub fn compile(alloc: Global, rules: &[Rule], names: &[Name]) -> Result<Tables, 
     ))
 }
 
-/// Adds the states of a rule, by its number and its steps.
+/// Appends the states of a rule, given by its number and its steps.
 #[tactic(auto, using(crate::proofs::StateLists::state_steps))]
 fn add_states(
     states: &mut Vec<State>,
@@ -54,7 +54,7 @@ fn add_states(
     Ok(())
 }
 
-/// The tags that pass the test.
+/// The test of tags for a step's test of names.
 fn tag_test(test: &Test, names: &[Name]) -> TagTest
     requires { length names.now ≤ most_names }
     ensures { result ≡ tag_test names.now test.now }
@@ -69,7 +69,7 @@ fn tag_test(test: &Test, names: &[Name]) -> TagTest
     }
 }
 
-/// The name is that of a dummy.
+/// Whether the name is a dummy's.
 fn is_a_dummy(name: &[u8]) -> bool
     ensures { result ≡ is_dummy_name name.now }
 {
@@ -87,7 +87,7 @@ fn number_of(name: &[u8], names: &[Name]) -> Option<usize>
     names.iter().position(|other| name == other.as_slice())
 }
 
-/// The numbers of the rules of a sign.
+/// The numbers of the rules with this sign.
 #[tactic(auto, using(crate::proofs::StateLists::number_steps))]
 fn numbered(rules: &[Rule], sign: Sign) -> Row
     requires { length rules.now ≤ most_rules }

@@ -1,5 +1,5 @@
-//! That tables stand for the paths of their rules. The functions do nothing: their contracts are the
-//! laws.
+//! Laws: the states of tables select what the paths of the rules select. These functions do nothing:
+//! their contracts are the laws.
 
 ghost use Rattle.std.specs.Prelude.{◌≡◌, ◌≤◌, [], ◌∷◌, ℕ, List, Some, length, true, false};
 ghost use Rattle.std.specs.List.{slice_get};
@@ -15,8 +15,9 @@ ghost use Rattle.rule_automata.specs.Compile.{automata_of, have_no_predicates, i
 ghost use Rattle.rule_automata.specs.Meaning.{AreTagsOf};
 ghost use Rattle.rule_automata.specs.Run.{is_selected_by};
 
-/// After the tags of an element and its ancestors, the states of the rules take just those whose
-/// path selects the element: by the element with its ancestors, and by its place in a document.
+/// After the tags of an element and its ancestors, the states select exactly the rules whose paths
+/// select the element. `chain` says so of an element with its ancestors, `place` of a place in a
+/// document.
 pub fn states_take_the_rules_that_select()
     ensures chain { (names : List (List ℕ)) (rules : List Rule) (tags : List ℕ) (e : Element)
         (up : Chain) (rule : ℕ) → are_distinct names ≡ true → length names ≤ most_names
@@ -32,7 +33,7 @@ pub fn states_take_the_rules_that_select()
         ≡ option_map_or (λ r. select d r.path place) (slice_get rules rule) false }
 {}
 
-/// Tables have a state for each step of their rules, and each rule ends.
+/// Tables have one state for each step of their rules, and each rule ends with one of its states.
 pub fn a_step_has_a_state()
     ensures count { (names : List (List ℕ)) (rules : List Rule)
         → length (automata_of names rules).states ≡ steps_in rules }

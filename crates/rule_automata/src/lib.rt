@@ -1,4 +1,4 @@
-//! Rules as automata over tags: tables with a state for each step of their paths.
+//! Compiles rules to automata over tags: tables with a state for each step of the rules' paths.
 #![tactic(auto)]
 
 mod compiler;

@@ -1,4 +1,4 @@
-//! Whether rules may be compiled: the test of what `compile` asks of its callers.
+//! Checks whether rules can be compiled, as `compile` requires.
 
 ghost use Rattle.std.specs.Prelude.{◌≡◌, ◌↔◌, IsTrue, length, nat_le};
 ghost use Rattle.std.specs.List.{list_all};
@@ -8,8 +8,8 @@ ghost use Rattle.rule_automata.specs.Compile.{AreWithinLimits, have_no_predicate
 use acl_model::limits::{MOST_NAMES, MOST_RULES, MOST_STEPS};
 use acl_model::{Name, Rule};
 
-/// Whether the rules are within the limits of a licence, have no predicate, and there are tags for
-/// the names.
+/// Whether the rules are within the limits of a licence and have no predicates, and there are tags
+/// for all names.
 pub fn are_within_limits(rules: &[Rule], names: &[Name]) -> bool
     ensures { IsTrue result ↔ AreWithinLimits names.now rules.now }
 {
@@ -22,7 +22,7 @@ pub fn are_within_limits(rules: &[Rule], names: &[Name]) -> bool
     have_no_predicates(rules)
 }
 
-/// Whether the rules have together no more steps than a row has numbers.
+/// Whether the paths of the rules have together at most as many steps as a licence may have.
 #[tactic(auto, using(crate::proofs::StateLists::step_counts))]
 fn have_few_steps(rules: &[Rule]) -> bool
     ensures { result ≡ nat_le (steps_in rules.now) most_steps }

@@ -1,4 +1,4 @@
-//! The tables of rules, as tokens and signs read them.
+//! The tables of rules, which `token_stack` and `sign_stack` use.
 
 ghost use Rattle.std.specs.Prelude.{◌≡◌, ◌≤◌, length, false, true};
 ghost use Rattle.std.specs.List.{slice_get};
@@ -9,8 +9,7 @@ use crate::state::State;
 use acl_bits::Row;
 use std::marker::Model;
 
-/// A state for each step of some rules, and which rules grant and which deny. Contracts see them as
-/// `Automata`.
+/// A state for each step of some rules, and which rules grant and which deny. Its model is `Automata`.
 #[derive(Debug, Drop)]
 pub struct Tables {
     states: Vec<State>,
@@ -30,7 +29,7 @@ impl Model for Tables {
 }
 
 impl Tables {
-    /// The parts put together.
+    /// Tables of these parts.
     pub(crate) fn from_parts(states: Vec<State>, grants: Row, denies: Row) -> Tables
         requires few { length states.items ≤ 256 }
         requires closed { is_closed false states.items ≡ true }
@@ -58,11 +57,11 @@ impl Tables {
         self.denies
     }
 
-    /// The states, one for each step, rule behind rule.
+    /// The states, one for each step, one rule after another.
     pub fn states(&self) -> &[State]
         ensures states { result.now ≡ self.now.states }
 
-        // What each table is: its states are at most 256, and each rule ends.
+        // The invariant of tables: at most 256 states, and each rule ends with one of its states.
         ensures few { length self.now.states ≤ 256 }
         ensures closed { is_closed false self.now.states ≡ true }
     {

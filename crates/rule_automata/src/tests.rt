@@ -1,4 +1,4 @@
-//! Tables of small rules, worked out by hand.
+//! Tables of three small rules, worked out by hand.
 
 use super::*;
 use acl_bits::Row;
@@ -6,7 +6,7 @@ use acl_model::{Axis, Bytes, Name, Path, Rule, Sequence, Sign, Step, Test};
 use std::alloc::{AllocError, Global};
 use std::test::Fail;
 
-/// A rule by its steps, `*` for each name.
+/// A rule with these steps. The name `*` gives the test for each name.
 fn rule(alloc: Global, sign: Sign, path: &[(Axis, &str)]) -> Result<Rule, AllocError> {
     let mut steps = Vec::new(alloc);
     for (axis, name) in path {
@@ -31,7 +31,7 @@ fn rule(alloc: Global, sign: Sign, path: &[(Axis, &str)]) -> Result<Rule, AllocE
     })
 }
 
-// `+ //Folder`, `- /Hospital//*`, `+ /-/x`, over the names Hospital, Folder and `-`.
+// The rules are `+ //Folder`, `- /Hospital//*` and `+ /-/x`; the names are Hospital, Folder and `-`.
 #[test]
 fn a_rule_has_a_state_for_each_step(rt: HostRuntime) -> Result<(), Fail> {
     let alloc = rt.alloc();

@@ -1,4 +1,4 @@
--- A hospital is a document, with at most 14 elements and 38 lines a folder.
+-- A hospital is a document. Each of its folders has at most 14 elements and 38 lines.
 use Rattle.std.proofs.Common.{◌≡◌, ℕ, zero, suc, ◌+◌, ◌*◌, ◌%◌, ◌==◌, ◌≤◌, ◌<◌, ◌^◌, Bool, true, false, nat_le, List, [], ◌∷◌, map, length, refl, ◌∙◌, arith, codes, if◌then◌else◌}
 use Rattle.std.proofs.lemmas.Bool.Decides.{nat_tests}
 use Rattle.std.proofs.lemmas.Fmt.{decimal_by_steps}
@@ -14,7 +14,7 @@ use Rattle.acl_model.specs.declared.document.Element.{Element}
 use Rattle.acl_model.specs.declared.document.Item.{Item}
 use Rattle.acl_model.specs.declared.document.Item.TheVariants.{Text, Child}
 use Rattle.sample_maker.specs.Hospital.{one_to, plain, field, admin, physician, act, identifier, folder, hospital}
-use Rattle.sample_maker.specs.Counts.{total, element_count, item_element_count, line_count, item_line_count}
+use Rattle.sample_maker.specs.inside.Counts.{total, element_count, item_element_count, line_count, item_line_count}
 use Rattle.sample_maker.proofs.CountEquations.{element_count_is, item_element_count-Text, item_element_count-Child, line_count_is, item_line_count-Text, item_line_count-Child}
 
 -- ---- texts
@@ -30,7 +30,7 @@ digits_within : (n : ℕ) → n < 2 ^ 64 → is_within_line (decimal n) ≡ true
 digits_within = decimal_by_steps (λ n ds. is_within_line ds ≡ true) digit_within
     (λ n ds large before. is_within_line-append ds ((48 + n % 10) ∷ []) before (digit_within (n % 10) (mod_below n)))
 
--- Parts that fit a line fit it together.
+-- Where each part fits a line, the parts one after another fit a line.
 concat_within : (parts : List (List ℕ)) → list_all is_within_line parts ≡ true → is_within_line (concat parts) ≡ true
 concat_within [] good = refl
 concat_within (part ∷ parts) good =
@@ -39,14 +39,14 @@ concat_within (part ∷ parts) good =
 
 -- ---- items
 
--- An item is of the right form, at most h high, and has at most e elements and l lines.
+-- An item is well formed, has at most height h, and has at most e elements and l lines.
 record Fits (item : Item) (h e l : ℕ) : Type 0 where
   form : item_well_formed is_name item ≡ true
   high : height_of_item item ≤ h
   elements : item_element_count item ≤ e
   lines : item_line_count item ≤ l
 
--- the same of items together
+-- the same of a list of items, whose elements and lines are those of all items together
 record AllFit (items : List Item) (h e l : ℕ) : Type 0 where
   form : list_all (λ b. b) (map (item_well_formed is_name) items) ≡ true
   high : greatest (map height_of_item items) ≤ h
@@ -65,14 +65,14 @@ one_more_fits item items h e l others more one rest =
       lines = omega (arith, one.lines, rest.lines);
     }
 
--- items made of the numbers from a on
+-- Where each item `f i` fits, the items made of the k numbers from a on fit together.
 each_fits : (f : ℕ → Item) (h e l last : ℕ) → ((i : ℕ) → i ≤ last → Fits (f i) h e l) → (a k : ℕ) → a + k ≤ last + 1 → AllFit (map f (range_with_len a k)) h (e * k) (l * k)
 each_fits f h e l last one a zero few = record { form = refl; high = omega arith; elements = omega arith; lines = omega arith }
 each_fits f h e l last one a (suc k) few =
     let both = one_more_fits (f a) (map f (range_with_len (a + 1) k)) h e l (e * k) (l * k) (one a (omega arith)) (each_fits f h e l last one (a + 1) k (omega arith)) in
     record { form = both.form; high = both.high; elements = grind (arith, both.elements); lines = grind (arith, both.lines) }
 
--- an element with these attributes
+-- An element with at most one attribute fits, where its name and attribute are valid and its items fit.
 element_fits : (element : Element) (h e l : ℕ) → is_name element.name ≡ true → length element.attributes ≤ 1 → list_all is_raw_attribute element.attributes ≡ true → AllFit element.items h e l
     → Fits (Child element) (h + 1) (e + 1) (l + length element.attributes + 2)
 element_fits element h e l named few raw inside = record {
@@ -169,14 +169,14 @@ hospital_is_document n few =
     within_depth : (h : ℕ) → h ≤ 4 → nat_le h 255 ≡ true
     within_depth h low = grind (arith, nat_tests)
 
--- how many elements it has at most
+-- The hospital with n folders has at most 14 * n + 1 elements.
 pub hospital_elements : (n : ℕ) → n ≤ 20000 → element_count (hospital n).root ≤ 14 * n + 1
 unfolding hospital
 hospital_elements n few =
     let folders = folders_fit n few in
     omega (arith, element_count_is (plain (codes "Hospital") (map folder (one_to n))), folders.elements)
 
--- how many lines
+-- The hospital with n folders has at most 38 * n + 2 lines.
 pub hospital_lines : (n : ℕ) → n ≤ 20000 → line_count (hospital n).root ≤ 38 * n + 2
 unfolding hospital
 hospital_lines n few =

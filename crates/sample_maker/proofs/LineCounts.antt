@@ -1,4 +1,4 @@
--- How many lines the text of an element has, and how many places an element has, by the counts of items.
+-- The counts of items are right: a text has as many lines as its tree, and an element has as many places as elements.
 use Rattle.std.proofs.Common.{◌≡◌, ℕ, ◌+◌, Bool, true, false, ◌&&◌, ◌||◌, nat_eq, nat_le, List, [], ◌∷◌, ◌++◌, map, length, refl, ap, sym, ◌∙◌, subst, append_assoc, append-nil, length-append, arith, ◌⊎◌, inl, inr}
 use Rattle.std.proofs.lemmas.Bool.{true≢false}
 use Rattle.std.proofs.lemmas.Bool.Decides.{nat_tests}
@@ -22,12 +22,12 @@ use Rattle.acl_model.specs.declared.document.Element.{Element, roll-Element}
 use Rattle.acl_model.specs.declared.document.Item.TheVariants.{rolls-Text, rolls-Child}
 use Rattle.acl_model.specs.declared.document.Item.TheOpen.{Item-F}
 use Rattle.acl_model.specs.declared.document.Item.TheFolds.{ind-Element, map-Item, map-Element}
-use Rattle.sample_maker.specs.Counts.{total, element_count, item_element_count, line_count, item_line_count}
+use Rattle.sample_maker.specs.inside.Counts.{total, element_count, item_element_count, line_count, item_line_count}
 use Rattle.sample_maker.proofs.CountEquations.{element_count_is, item_element_count-Text, item_element_count-Child, line_count_is, item_line_count-Text, item_line_count-Child}
 
 -- ---- lines
 
--- Before any bytes, these add n lines.
+-- The bytes, put before any other bytes, add n lines.
 abbrev AddsLines : List ℕ → ℕ → Type 0
 AddsLines bytes n = (rest : List ℕ) → length (lines (bytes ++ rest)) ≡ n + length (lines rest)
 
@@ -51,7 +51,7 @@ AddsLines-attributes (raw ∷ attributes) good rest =
     let both = AddsLines-append (line capital_a raw) (concat (map (line capital_a) attributes)) 1 (length attributes) (AddsLines-line capital_a raw refl own) later rest in
     omega (arith, both)
 
--- where the element is of the right form, its text adds its lines
+-- Where an element is well formed, its text adds as many lines as the element has.
 abbrev IsCounted : (List ℕ → Bool) → Element → Type 0
 IsCounted name e = is_well_formed name e ≡ true → AddsLines (element_text e) (line_count e)
 
@@ -76,15 +76,15 @@ element_counted name names e inside good rest =
     let few = nat_le (length e.attributes) 65535 in
     let raw = list_all is_raw_attribute e.attributes in
     let items = list_all (λ b. b) (map (item_well_formed name) e.items) in
-    let front = first_so (own && few && raw) items form in
-    let named = names e.name (first_so own few (first_so (own && few) raw front)) in
+    let prefix = first_so (own && few && raw) items form in
+    let named = names e.name (first_so own few (first_so (own && few) raw prefix)) in
     let attributes_text = concat (map (line capital_a) e.attributes) in
     let start = line left_parenthesis e.name in
     let content = concat (map item_text e.items) in
     let end = line right_parenthesis e.name in
     let size = total (map item_line_count e.items) in
     let all : AddsLines (attributes_text ++ (start ++ (content ++ end))) (length e.attributes + (1 + (size + 1))) =
-    AddsLines-append attributes_text (start ++ (content ++ end)) (length e.attributes) (1 + (size + 1)) (AddsLines-attributes e.attributes (second_so (own && few) raw front))
+    AddsLines-append attributes_text (start ++ (content ++ end)) (length e.attributes) (1 + (size + 1)) (AddsLines-attributes e.attributes (second_so (own && few) raw prefix))
     (AddsLines-append start (content ++ end) 1 (size + 1) (AddsLines-line left_parenthesis e.name refl named)
     (AddsLines-append content end size 1 (inside (second_so (own && few && raw) items form)) (AddsLines-line right_parenthesis e.name refl named))) in
     let counted = all rest in
@@ -102,7 +102,7 @@ item_counted name (Item-F.Child pair) = subst (IsItemCounted name) (sym (rolls-C
     ∙ pair.1 (sym (item_well_formed-Child name pair.0) ∙ good) rest
     ∙ ap (λ n. n + length (lines rest)) (sym (item_line_count-Child pair.0)))
 
--- Where names hold no line feed, the text of an element of the right form adds its lines.
+-- Where names contain no line feed, the text of a well-formed element adds as many lines as the element has.
 lines_counted : (name : List ℕ → Bool) → ((n : List ℕ) → name n ≡ true → lacks line_feed n ≡ true) → (e : Element) → IsCounted name e
 lines_counted name names = ind-Element (IsItemCounted name) (IsCounted name)
     (λ x y is. subst (λ z. IsItemCounted name (roll-Item z)) is (item_counted name y))
@@ -132,17 +132,18 @@ is_view_name-lacks name good = elim (either (is_name name) (is_dummy_name name) 
 pub lines_of_document : (d : Doc) → is_document d ≡ true → length (lines (text d)) ≡ line_count d.root
 lines_of_document d good = whole_text is_name (λ n. is_name-lacks line_feed refl n) d (first_so (is_well_formed is_name d.root) (nat_le (height d.root) 255) good)
 
--- So has that of a view.
+-- The text of a view has as many lines as its tree.
 pub lines_of_view_document : (d : Doc) → is_view_document d ≡ true → length (lines (text d)) ≡ line_count d.root
 lines_of_view_document d good = whole_text is_view_name is_view_name-lacks d (first_so (is_well_formed is_view_name d.root) (nat_le (height d.root) 255) good)
 
 -- ---- places
 
--- an element has as many places as elements
+-- An element has as many places as elements.
 abbrev IsPlaced : Element → Type 0
 IsPlaced e = length (places_below e) ≡ element_count e
 
--- Before the places of other items, those of this item, from the k-th on, are as many as its elements.
+-- Where the items after this one have n places, this item and those have n places, and one more for each element in
+-- this item.
 abbrev IsItemPlaced : Item → Type 0
 IsItemPlaced item = (others : List Item) (n : ℕ) → ((k : ℕ) → length (numbered (map places_of_item others) k) ≡ n)
     → (k : ℕ) → length (numbered (places_of_item item ∷ map places_of_item others) k) ≡ item_element_count item + n

@@ -1,9 +1,9 @@
--- What is made of the numbers from 1 on, one more at a time.
+-- Lists that are made of the numbers from 1 on, with one more number in each step.
 use Rattle.std.proofs.Common.{◌≡◌, ℕ, ◌+◌, ◌-◌, ◌≤◌, [], ◌∷◌, ◌++◌, map, arith, ap, ◌∙◌}
 use Rattle.std.proofs.lemmas.List.FromFn.{map-range_with_len_more}
 use Rattle.sample_maker.specs.Hospital.{one_to}
 
--- after the number j
+-- the list for the numbers up to j, from the one for the numbers before j
 pub map-one_to : {X : Type 0} (f : ℕ → X) (j : ℕ) → 1 ≤ j → map f (one_to ((j + 1) - 1)) ≡ map f (one_to (j - 1)) ++ f j ∷ []
 map-one_to f j some =
     let same : (j + 1) - 1 ≡ (j - 1) + 1 = omega arith in

@@ -15,7 +15,7 @@ use Rattle.acl_model.specs.declared.document.Item.TheFolds.{ind-Element, map-Ite
 use Rattle.acl_model.specs.declared.rule.Rule.{Rule}
 use Rattle.acl_model.specs.declared.rule.Sign.{Sign}
 use Rattle.acl_model.specs.declared.rule.Sign.TheVariants.{Grant, Deny}
-use Rattle.sample_maker.specs.Counts.{total, line_count, item_line_count}
+use Rattle.sample_maker.specs.inside.Counts.{total, line_count, item_line_count}
 use Rattle.sample_maker.proofs.CountEquations.{line_count_is, item_line_count-Child}
 
 none_is_not_some : {A : Type 0} (x : A) → None ≡ Some x → ⊥
@@ -24,7 +24,7 @@ none_is_not_some x h = subst (λ o. MatchOption o (Unit {0}) (λ _. ⊥)) h tt
 same_within : {A : Type 0} (x y : A) → Some x ≡ Some y → x ≡ y
 same_within x y h = ap (λ o. unwrap_or o x) h
 
--- what an element shows has no more lines than it
+-- What a view shows of an element has no more lines than the element.
 abbrev ShowsFewer : Element → Type 0
 ShowsFewer e = (signs : Signs) (x : Element) → (filter_of e).view signs ≡ Some x → line_count x ≤ line_count e
 
@@ -32,7 +32,7 @@ ShowsFewer e = (signs : Signs) (x : Element) → (filter_of e).view signs ≡ So
 abbrev ItemShowsFewer : Item → Type 0
 ItemShowsFewer item = (e : Element) → element_of item ≡ Some e → ShowsFewer e
 
--- these items have no more lines than those
+-- The items `shown` have no more lines than `items`.
 abbrev AreFewer : List Item → List Item → Type 0
 AreFewer shown items = total (map item_line_count shown) ≤ total (map item_line_count items)
 
@@ -89,7 +89,7 @@ doc_shown : (o : Option Element) (v : Doc) → doc_of o ≡ Some v → o ≡ Som
 doc_shown None v is = absurd (none_is_not_some v is)
 doc_shown (Some e) v is = ap Some (ap (λ (w : Doc). w.root) (same_within (record { root = e }) v is))
 
--- The view of a document has no more lines than it.
+-- The view of a document has no more lines than the document.
 pub view_has_no_more_lines : (d : Doc) (rules : List Rule) (v : Doc) → view d rules ≡ Some v → line_count v.root ≤ line_count d.root
 unfolding view
 view_has_no_more_lines d rules v shown = shows_fewer d.root (sign d rules) v.root (doc_shown ((filter_of d.root).view (sign d rules)) v shown)

@@ -1,4 +1,4 @@
--- The sample document: a hospital with one folder a patient, made from numbers alone. This project's own.
+-- The sample document: a hospital with a folder for each patient, made from numbers alone. Defined by this project.
 use Rattle.std.specs.Prelude.{ℕ, ◌+◌, ◌*◌, ◌%◌, ◌==◌, List, [], ◌∷◌, map, codes, decimal, if◌then◌else◌}
 use Rattle.std.specs.List.{concat, range_with_len}
 use Rattle.acl_model.specs.declared.document.Doc.{Doc}
@@ -14,11 +14,11 @@ one_to n = range_with_len 1 n
 abbrev pub plain : List ℕ → List Item → Element
 plain name items = record { name = name; attributes = []; items = items }
 
--- an element that holds one text
+-- a child element that contains one text and has no attributes
 abbrev pub field : List ℕ → List ℕ → Item
 field name text = Child (plain name (Text text ∷ []))
 
--- the patient of folder i: SSN, Fname and Age
+-- the element Admin of folder i, which is about its patient: SSN, Fname and Age
 unfoldable pub admin : ℕ → Item
 admin i = Child (plain (codes "Admin") (
     field (codes "SSN") (decimal (100000000 + 7001 * i))
@@ -26,7 +26,7 @@ admin i = Child (plain (codes "Admin") (
     ∷ field (codes "Age") (decimal (20 + i % 70))
     ∷ []))
 
--- the physician of act j in folder i: Ana, Bea or Cy, where i + j leaves 0, 1 or 2 when divided by 3
+-- the physician of act j in folder i: Ana, Bea or Cy, where (i + j) mod 3 is 0, 1 or 2
 unfoldable pub physician : ℕ → ℕ → List ℕ
 physician i j =
     if (i + j) % 3 == 0 then codes "Ana"
@@ -44,7 +44,7 @@ act i j = Child (plain (codes "Act") (
 abbrev pub identifier : ℕ → List (List ℕ)
 identifier i = concat (codes "Id CDATA f" ∷ decimal i ∷ []) ∷ []
 
--- Folder i has its identifier, its patient, and then the acts from 1 to i mod 4.
+-- Folder i has its identifier as attribute. Its items are the patient, and then the acts from 1 to i mod 4.
 unfoldable pub folder : ℕ → Item
 folder i = Child (record {
   name = codes "Folder";
@@ -52,6 +52,6 @@ folder i = Child (record {
   items = admin i ∷ map (act i) (one_to (i % 4));
 })
 
--- The hospital has the folders from 1 to n.
+-- The root of the hospital contains the folders from 1 to n.
 unfoldable pub hospital : ℕ → Doc
 hospital n = record { root = plain (codes "Hospital") (map folder (one_to n)) }

@@ -1,3 +1,3 @@
 pub mod Hospital
 pub mod Sample
-pub mod Counts
+pub mod inside

@@ -1,4 +1,5 @@
--- The line that tells how large a sample is. This project's own.
+-- The sample line: how many elements and lines the sample document has, and how many lines its view under one rule
+-- has. Defined by this project.
 use Rattle.std.specs.Prelude.{ℕ, Some, None, List, [], ◌∷◌, length, codes, decimal}
 use Rattle.std.specs.List.{concat}
 use Rattle.acl_model.specs.Ascii.{line_feed}
@@ -17,7 +18,7 @@ use Rattle.acl_model.specs.declared.path.Op.TheVariants.{Eq}
 use Rattle.acl_model.specs.declared.path.Operand.TheVariants.{Text}
 use Rattle.sample_maker.specs.Hospital.{hospital}
 
--- [Act/RPhys = "Ana"]: an act by the physician Ana
+-- [Act/RPhys = "Ana"]: the context node has an act by the physician Ana
 unfoldable pub by_ana : Pred
 by_ana = record {
   way = record { axis = Child; test = Named (codes "Act") } ∷ record { axis = Child; test = Named (codes "RPhys") } ∷ [];
@@ -25,7 +26,7 @@ by_ana = record {
   cmp = Some (record { op = Eq; operand = Text (codes "Ana") });
 }
 
--- //Folder[Act/RPhys = "Ana"]/Admin: the patients of the physician Ana
+-- //Folder[Act/RPhys = "Ana"]/Admin: the patients of the physician Ana, each as the element Admin
 unfoldable pub patients_of_ana : Path
 patients_of_ana = record {
   steps =
@@ -38,15 +39,15 @@ patients_of_ana = record {
 abbrev pub sample_rule : Rule
 sample_rule = record { id = codes "S"; sign = Grant; path = patients_of_ana }
 
--- the number of elements of a document
+-- the number of elements of a document, which is the number of its places
 unfoldable pub element_number : Doc → ℕ
 element_number d = length (places d)
 
--- the number of its lines
+-- the number of lines of a document's text
 unfoldable pub line_number : Doc → ℕ
 line_number d = length (lines (text d))
 
--- the number of lines of its view under the rule
+-- the number of lines of a document's view under `sample_rule`, without a query
 unfoldable pub view_line_number : Doc → ℕ
 view_line_number d = length (lines (out d (sample_rule ∷ []) None))
 

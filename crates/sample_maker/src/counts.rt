@@ -1,11 +1,11 @@
-//! How many elements and lines a tree has. The calls go as deep as the tree.
+//! How many elements and lines a tree has. The recursion is as deep as the tree.
 
 ghost use Rattle.std.specs.Prelude.{◌≡◌, ◌^◌, ◌<◌};
-ghost use Rattle.sample_maker.specs.Counts.{element_count, item_element_count, line_count, item_line_count};
+ghost use Rattle.sample_maker.specs.inside.Counts.{element_count, item_element_count, line_count, item_line_count};
 
 use acl_model::{Element, Item};
 
-/// The elements, the outermost counted.
+/// The number of elements in an element, itself included.
 #[cycle(elements)]
 #[tactic(auto, using(crate::proofs::CountEquations::count_steps))]
 pub fn elements_in(element: &Element) -> u32
@@ -19,6 +19,7 @@ pub fn elements_in(element: &Element) -> u32
     count
 }
 
+/// The number of elements in an item. A text has none.
 #[cycle(elements)]
 #[tactic(auto, using(crate::proofs::CountEquations::count_steps))]
 fn elements_in_item(item: &Item) -> u32
@@ -31,7 +32,7 @@ fn elements_in_item(item: &Item) -> u32
     }
 }
 
-/// The lines that are written of an element: one for each attribute, start, text and end.
+/// The number of lines of an element's text: one for each attribute, start, text and end.
 #[cycle(lines)]
 #[tactic(auto, using(crate::proofs::CountEquations::count_steps))]
 pub fn lines_in(element: &Element) -> u32
@@ -45,6 +46,7 @@ pub fn lines_in(element: &Element) -> u32
     count
 }
 
+/// The number of lines of an item. A text has one.
 #[cycle(lines)]
 #[tactic(auto, using(crate::proofs::CountEquations::count_steps))]
 fn lines_in_item(item: &Item) -> u32

@@ -1,4 +1,4 @@
-//! The hospital with n folders, made in one pass: its memory is that of the document.
+//! Makes the hospital with n folders in one pass. It needs the memory of the document.
 
 ghost use Rattle.std.specs.Prelude.{◌≡◌, ℕ, ◌+◌, ◌<◌, ◌≤◌, [], ◌∷◌, ◌++◌, map, decimal, IfOk};
 ghost use Rattle.std.specs.List.{concat};
@@ -21,13 +21,14 @@ pub fn joined(alloc: Global, parts: &[&[u8]]) -> Result<Bytes, AllocError>
     Ok(Bytes::from_vec(bytes))
 }
 
-/// The front, and the number in decimal behind it.
-fn numbered(alloc: Global, front: &[u8], number: u32) -> Result<Bytes, AllocError>
-    ensures { IfOk result (λ bytes. bytes ≡ concat (front.now ∷ decimal number ∷ [])) }
+/// The prefix, followed by the number in decimal.
+fn numbered(alloc: Global, prefix: &[u8], number: u32) -> Result<Bytes, AllocError>
+    ensures { IfOk result (λ bytes. bytes ≡ concat (prefix.now ∷ decimal number ∷ [])) }
 {
-    joined(alloc, &[front, Buffer::new().format(number).as_bytes()])
+    joined(alloc, &[prefix, Buffer::new().format(number).as_bytes()])
 }
 
+/// An element with this name, these attributes and these items.
 fn element(
     alloc: Global,
     name: &[u8],
@@ -44,27 +45,28 @@ fn element(
     })
 }
 
+/// The item that is a child element.
 fn child(alloc: Global, element: Element) -> Result<Item, AllocError>
     ensures { IfOk result (λ item. item ≡ Item.Child element) }
 {
     Ok(Item::Child(Boxed::new(alloc, element)?))
 }
 
-/// A child without attributes.
+/// A child element without attributes.
 fn plain(alloc: Global, name: &[u8], items: Vec<Item>) -> Result<Item, AllocError>
     ensures { IfOk result (λ item. item ≡ Item.Child (word.plain name.now items.items)) }
 {
     child(alloc, element(alloc, name, Sequence::new(alloc), items)?)
 }
 
-/// A child that holds one text.
+/// A child element that contains one text and has no attributes.
 fn field(alloc: Global, name: &[u8], text: Bytes) -> Result<Item, AllocError>
     ensures { IfOk result (λ item. item ≡ word.field name.now text) }
 {
     plain(alloc, name, vec![in alloc; Item::Text(text)]?)
 }
 
-/// The patient of folder i.
+/// The element `Admin` of folder i, which is about its patient.
 #[tactic(auto, unfolding(crate::specs::Hospital::admin))]
 fn admin(alloc: Global, i: u32) -> Result<Item, AllocError>
     requires { i ≤ 20000 }
@@ -109,7 +111,7 @@ fn act(alloc: Global, i: u32, j: u32) -> Result<Item, AllocError>
     plain(alloc, b"Act", fields)
 }
 
-/// The attributes of folder i.
+/// The one attribute of folder i, its identifier.
 fn identifier(alloc: Global, i: u32) -> Result<Sequence<Bytes>, AllocError>
     ensures { IfOk result (λ attributes. attributes ≡ word.identifier i) }
 {

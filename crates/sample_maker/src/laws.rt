@@ -1,4 +1,4 @@
-//! That a hospital is a document. This function does nothing: its contract is the law.
+//! The law that a hospital is a document. It is the contract of a function that does nothing.
 
 ghost use Rattle.std.specs.Prelude.{◌≡◌, ℕ, ◌≤◌, true};
 ghost use Rattle.acl_model.specs.Document.{is_document};

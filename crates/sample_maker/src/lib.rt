@@ -1,4 +1,4 @@
-//! The sample document: a hospital with as many folders as asked for, and the line that tells how large it is.
+//! The sample document, a hospital with as many folders as asked for, and the line with its numbers.
 #![tactic(auto)]
 
 mod counts;

@@ -1,9 +1,9 @@
-//! The sample line: how many elements and lines the sample has, and how many lines its view.
+//! The sample line: how many elements and lines the sample has, and how many lines its view has.
 
 ghost use Rattle.std.specs.Prelude.{◌≡◌, ◌^◌, ◌<◌, ◌≤◌, true, IfOk};
 ghost use Rattle.acl_model.specs.Document.{is_document};
 ghost use Rattle.sample_maker.specs.Hospital.{hospital};
-ghost use Rattle.sample_maker.specs.Counts.{line_count};
+ghost use Rattle.sample_maker.specs.inside.Counts.{line_count};
 ghost use Rattle.sample_maker.specs.Sample as word;
 
 use crate::counts::{elements_in, lines_in};
@@ -15,7 +15,7 @@ use itoa::Buffer;
 use std::alloc::{AllocError, Global};
 use tree_meaning::view_tree;
 
-/// The lines of the document's view under the rule of the sample line.
+/// The number of lines of the document's view under the sample rule. It is 0 where the view shows nothing.
 #[tactic(auto, using(crate::proofs::Numbers::numbers_by_counts))]
 fn lines_of_view(alloc: Global, doc: &Doc) -> Result<u32, NoMemory>
     requires form { is_document doc.now ≡ true }
@@ -29,6 +29,7 @@ fn lines_of_view(alloc: Global, doc: &Doc) -> Result<u32, NoMemory>
     }
 }
 
+/// The sample line with these numbers.
 #[tactic(auto, unfolding(crate::specs::Sample::line_of_numbers))]
 fn line_of_numbers(alloc: Global, elements: u32, lines: u32, view: u32) -> Result<Bytes, AllocError>
     ensures { IfOk result (λ line. line ≡ word.line_of_numbers elements lines view) }
@@ -46,7 +47,7 @@ fn line_of_numbers(alloc: Global, elements: u32, lines: u32, view: u32) -> Resul
     joined(alloc, &parts)
 }
 
-/// The sample line of the hospital with n folders, which is handed in.
+/// The sample line of the hospital with n folders. The caller passes that hospital as `doc`.
 #[tactic(auto, using(crate::proofs::Numbers::numbers_by_counts), unfolding(crate::specs::Sample::sample_line))]
 pub fn sample_line(alloc: Global, n: u32, doc: &Doc) -> Result<Bytes, NoMemory>
     requires some { 1 ≤ n }

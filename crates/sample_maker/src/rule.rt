@@ -1,4 +1,4 @@
-//! The rule of the sample line: + S //Folder[Act/RPhys = "Ana"]/Admin.
+//! The rule of the sample line: `+ S //Folder[Act/RPhys = "Ana"]/Admin`.
 
 ghost use Rattle.std.specs.Prelude.{◌≡◌, IfOk};
 ghost use Rattle.sample_maker.specs.Sample as word;
@@ -8,13 +8,14 @@ use acl_model::{
 };
 use std::alloc::{AllocError, Global};
 
+/// The test that an element has this name.
 fn named(alloc: Global, name: &[u8]) -> Result<Test, AllocError>
     ensures { IfOk result (λ test. test ≡ Test.Named name.now) }
 {
     Ok(Test::Named(Name::from_slice(alloc, name)?))
 }
 
-/// [Act/RPhys = "Ana"]
+/// The predicate `[Act/RPhys = "Ana"]`.
 #[tactic(auto, unfolding(crate::specs::Sample::by_ana))]
 fn by_ana(alloc: Global) -> Result<Pred, AllocError>
     ensures { IfOk result (λ pred. pred ≡ word.by_ana) }
@@ -40,7 +41,7 @@ fn by_ana(alloc: Global) -> Result<Pred, AllocError>
     })
 }
 
-/// //Folder[Act/RPhys = "Ana"]/Admin
+/// The path `//Folder[Act/RPhys = "Ana"]/Admin`.
 #[tactic(auto, unfolding(crate::specs::Sample::patients_of_ana))]
 fn patients_of_ana(alloc: Global) -> Result<Path, AllocError>
     ensures { IfOk result (λ path. path ≡ word.patients_of_ana) }
@@ -60,6 +61,7 @@ fn patients_of_ana(alloc: Global) -> Result<Path, AllocError>
     })
 }
 
+/// The rule `S`, which grants the patients of the physician Ana.
 pub fn sample_rule(alloc: Global) -> Result<Rule, AllocError>
     ensures { IfOk result (λ rule. rule ≡ word.sample_rule) }
 {

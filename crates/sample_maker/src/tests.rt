@@ -1,11 +1,11 @@
-//! The sample document and its line, worked out by hand: folder i has i mod 4 acts, and act j of it the physician at
-//! (i + j) mod 3 of Ana, Bea and Cy.
+//! The sample document and its line, worked out by hand. Folder i has i mod 4 acts. The physician of its act j is Ana,
+//! Bea or Cy, where (i + j) mod 3 is 0, 1 or 2.
 
 use super::*;
 use acl_model::{Element, Item, Sign};
 use std::test::Fail;
 
-/// Writes the lines of an element, with `;` in the place of each line feed.
+/// Writes the lines of an element, with `;` instead of each line feed.
 fn write(text: &mut String, element: &Element) -> Result<(), Fail> {
     let name = str::from_utf8(element.name.as_slice())?;
     for raw in element.attributes.as_slice() {

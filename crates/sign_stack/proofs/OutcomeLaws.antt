@@ -1,4 +1,4 @@
--- What is said before all rows are settled holds whatever they come to be.
+-- A sign that is given before all levels are settled stays right, whatever they settle to.
 use Rattle.std.proofs.Common.{◌≡◌, ◌⊎◌, inl, inr, ℕ, suc, Bool, true, false, cond, eqb, ◌||◌, Option, Some, None, List, [], ◌∷◌, refl, ap, sym, subst, ◌∙◌, arith, map, Any, eq-eqb}
 use Rattle.std.specs.Bool.{MatchBool}
 use Rattle.std.specs.List.{list_any, find}
@@ -11,35 +11,36 @@ use Rattle.acl_model.specs.declared.rule.Sign.TheVariants.{Grant, Deny}
 use Rattle.sign_stack.specs.declared.level.Level.{Level}
 use Rattle.sign_stack.specs.declared.level.Verdict.{Verdict}
 use Rattle.sign_stack.specs.declared.level.Verdict.TheVariants.{Decided, Unsettled, Inherited}
-use Rattle.sign_stack.specs.Levels.{has_rule_of, sign_by, sign_of_levels, rule_of_levels}
-use Rattle.sign_stack.specs.Rules.{settled_level, AreOutcomes, IsUnsettled, IsUnsettledBy, IsHeldUp, AreSettledToDecider, IsSettledToDecider}
+use Rattle.sign_stack.specs.SignLevels.{has_rule_of, sign_by, sign_of_levels, rule_of_levels}
+use Rattle.sign_stack.specs.RuleRows.{settled_level, AreOutcomes, IsUnsettled, IsUnsettledBy, IsUndecided, AreSettledToDecider, IsSettledToDecider}
 
 none_is_not_some : {A : Type 0} (x : A) → None ≡ Some x → ⊥
 none_is_not_some x h = subst (λ o. MatchOption o (Unit {0}) (λ _. ⊥)) h tt
 
 -- ---- members
 
--- a member that passes a test is one of some that do
+-- where a member passes a test, some member does
 any_from_member : (f : ℕ → Bool) (xs : List ℕ) (n : ℕ) → is_member xs n ≡ true → f n ≡ true → list_any f xs ≡ true
 unfolding is_member
 any_from_member f xs n in_it passes =
     let a : Any (λ x. eqb x n ≡ true) xs = Any-from_list_any (λ x. eqb x n) xs in_it in
     list_any-from_Any f xs (a.0, a.1, a.2, a.3, ap f (eqb-true a.1 n a.4) ∙ passes)
 
--- where some pass a test, a member does
+-- where some pass a test, some member passes it
 member_from_any : (f : ℕ → Bool) (xs : List ℕ) → list_any f xs ≡ true → (n : ℕ) × (is_member xs n ≡ true) × (f n ≡ true)
 unfolding is_member
 member_from_any f xs some =
     let a : Any (λ x. f x ≡ true) xs = Any-from_list_any f xs some in
     (a.1, list_any-from_Any (λ x. eqb x a.1) xs (a.0, a.1, a.2, a.3, eq-eqb a.1 a.1 refl), a.4)
 
--- of more members some pass, where some of these do
+-- where all of these are members of the other list and some of these pass, some of the others pass
 any_of_more : (f : ℕ → Bool) (xs ys : List ℕ) → ((n : ℕ) → is_member xs n ≡ true → is_member ys n ≡ true) → list_any f xs ≡ true → list_any f ys ≡ true
 any_of_more f xs ys more some =
     let found : (n : ℕ) × (is_member xs n ≡ true) × (f n ≡ true) = member_from_any f xs some in
     any_from_member f ys found.0 (more found.0 found.1) found.2
 
--- where some of these pass and none of those does, one of these passes and is none of those
+-- where some rule of the first set passes and none of the second does, one passes that is in the first
+-- only
 one_between : (f : ℕ → Bool) (may sure : List ℕ) → list_any f may ≡ true → list_any f sure ≡ false → (n : ℕ) × (f n ≡ true) × (is_member may n ≡ true) × (is_member sure n ≡ false)
 one_between f may sure some none =
     let found : (n : ℕ) × (is_member may n ≡ true) × (f n ≡ true) = member_from_any f may some in
@@ -51,11 +52,11 @@ one_between f may sure some none =
 
 -- ---- signs
 
--- what rows say, by whether they surely, and whether they possibly, have a denial and a grant
+-- what sets say, by whether a denial surely or possibly selects, and whether a grant does
 abbrev said : Bool → Bool → Bool → Bool → Verdict
 said denial denials grant grants = cond denial (Decided Deny) (cond denials Unsettled (cond grant (Decided Grant) (cond grants Unsettled Inherited)))
 
--- a sign that is said holds where the row has what is surely there, and nothing that may not be
+-- a sign that is given stays right for a set that has each sure rule and only possible rules
 kept_sign : (denial denials grant grants denied granted : Bool) (above below : Option Sign) (s : Sign)
     → (denial ≡ true → denied ≡ true) → (denied ≡ true → denials ≡ true) → (grant ≡ true → granted ≡ true) → (granted ≡ true → grants ≡ true)
     → (above ≡ Some s → below ≡ Some s) → sign_by (said denial denials grant grants) above ≡ Some s → sign_by (said denied denied granted granted) below ≡ Some s
@@ -69,7 +70,7 @@ kept_sign false false false true false granted above below s d1 d2 g1 g2 up is =
 kept_sign false false false false false true above below s d1 d2 g1 g2 up is = absurd (true≢false (sym (g2 refl)))
 kept_sign false false false false false false above below s d1 d2 g1 g2 up is = up is
 
--- A sign that is given holds whatever the levels come to.
+-- A sign that is given stays right, whatever the levels settle to.
 pub sign_holds : (grants denies : List ℕ) (levels : List Level) (rows : List (List ℕ)) (s : Sign) → AreOutcomes levels rows
     → sign_of_levels grants denies levels ≡ Some s → sign_of_levels grants denies (map settled_level rows) ≡ Some s
 sign_holds grants denies [] [] s outcomes is = is
@@ -88,7 +89,7 @@ later level levels a = (suc a.0, a.1, omega (arith, a.2), a.3, a.4)
 without_rules : (rules : List ℕ) (level : Level) → IsUnsettledBy rules level → IsUnsettled level
 without_rules rules level by = (by.0, by.2, by.3)
 
--- no sign is given by a level that is not settled, or by one around it
+-- where no sign is given, this level or one around it isn't settled
 why_none : (grants denies : List ℕ) (level : Level) (levels : List Level) (denial denials grant grant' : Bool) (above : Option Sign)
     → has_rule_of denies level.sure ≡ denial → has_rule_of denies level.may ≡ denials → has_rule_of grants level.sure ≡ grant → has_rule_of grants level.may ≡ grant'
     → (above ≡ None → Any IsUnsettled levels) → sign_by (said denial denials grant grant') above ≡ None → Any IsUnsettled (level ∷ levels)
@@ -104,18 +105,18 @@ none_is_unsettled grants denies (level ∷ levels) is =
     why_none grants denies level levels (has_rule_of denies level.sure) (has_rule_of denies level.may) (has_rule_of grants level.sure) (has_rule_of grants level.may) (sign_of_levels grants denies levels)
     refl refl refl refl (none_is_unsettled grants denies levels) is
 
--- no sign is given by the innermost level at which a rule may select
+-- where no sign is given, the innermost level at which a rule may select is the reason
 stops_there : (grants denies : List ℕ) (level : Level) (levels : List Level) (denial denials grant grant' : Bool) (above : Option Sign)
     → has_rule_of denies level.sure ≡ denial → has_rule_of denies level.may ≡ denials → has_rule_of grants level.sure ≡ grant → has_rule_of grants level.may ≡ grant'
-    → (above ≡ None → IsHeldUp grants denies levels) → sign_by (said denial denials grant grant') above ≡ None
-    → MatchBool (denials || grant') (IsUnsettledBy denies level ⊎ IsUnsettledBy grants level) (IsHeldUp grants denies levels)
+    → (above ≡ None → IsUndecided grants denies levels) → sign_by (said denial denials grant grant') above ≡ None
+    → MatchBool (denials || grant') (IsUnsettledBy denies level ⊎ IsUnsettledBy grants level) (IsUndecided grants denies levels)
 stops_there grants denies level levels true denials grant grant' above d1 d2 g1 g2 up is = absurd (none_is_not_some Deny (sym is))
 stops_there grants denies level levels false true grant grant' above d1 d2 g1 g2 up is = inl (one_between (is_member denies) level.may level.sure d2 d1)
 stops_there grants denies level levels false false true grant' above d1 d2 g1 g2 up is = absurd (none_is_not_some Grant (sym is))
 stops_there grants denies level levels false false false true above d1 d2 g1 g2 up is = inr (one_between (is_member grants) level.may level.sure g2 g1)
 stops_there grants denies level levels false false false false above d1 d2 g1 g2 up is = up is
 
-pub none_is_held_up : (grants denies : List ℕ) (levels : List Level) → sign_of_levels grants denies levels ≡ None → IsHeldUp grants denies levels
+pub none_is_held_up : (grants denies : List ℕ) (levels : List Level) → sign_of_levels grants denies levels ≡ None → IsUndecided grants denies levels
 none_is_held_up grants denies [] is = absurd (none_is_not_some Deny (sym is))
 none_is_held_up grants denies (level ∷ levels) is =
     stops_there grants denies level levels (has_rule_of denies level.sure) (has_rule_of denies level.may) (has_rule_of grants level.sure) (has_rule_of grants level.may) (sign_of_levels grants denies levels)
@@ -125,13 +126,13 @@ none_is_held_up grants denies (level ∷ levels) is =
 none_unsettled : (rules : List ℕ) (level : Level) → level.sure ≡ level.may → IsUnsettledBy rules level → ⊥
 none_unsettled rules level same by = true≢false (sym by.2 ∙ sym (ap (λ row. is_member row by.0) same) ∙ by.3)
 
-not_held_up : (grants denies : List ℕ) (levels : List Level) → IsSettledToDecider grants denies levels → IsHeldUp grants denies levels → ⊥
+not_held_up : (grants denies : List ℕ) (levels : List Level) → IsSettledToDecider grants denies levels → IsUndecided grants denies levels → ⊥
 not_held_up grants denies [] settled held = held
 not_held_up grants denies (level ∷ levels) settled held =
     stop (has_rule_of denies level.may || has_rule_of grants level.may) (not_held_up grants denies levels) settled.1 held
   where
-    stop : (b : Bool) → (IsSettledToDecider grants denies levels → IsHeldUp grants denies levels → ⊥) → MatchBool b (Unit {0}) (IsSettledToDecider grants denies levels)
-        → MatchBool b (IsUnsettledBy denies level ⊎ IsUnsettledBy grants level) (IsHeldUp grants denies levels) → ⊥
+    stop : (b : Bool) → (IsSettledToDecider grants denies levels → IsUndecided grants denies levels → ⊥) → MatchBool b (Unit {0}) (IsSettledToDecider grants denies levels)
+        → MatchBool b (IsUnsettledBy denies level ⊎ IsUnsettledBy grants level) (IsUndecided grants denies levels) → ⊥
     stop true farther rest (inl by) = none_unsettled denies level settled.0 by
     stop true farther rest (inr by) = none_unsettled grants level settled.0 by
     stop false farther rest up = farther rest up
@@ -147,12 +148,12 @@ settled_is_given grants denies levels settled =
 
 -- ---- rules
 
--- a rule is found where there is one
+-- a member that passes is found exactly where there is one
 found_is : (f : ℕ → Bool) (xs : List ℕ) → is_some (find f xs) ≡ list_any f xs
 found_is f [] = refl
 found_is f (x ∷ xs) = elim (f x) as (λ b. is_some (cond b (Some x) (find f xs)) ≡ (b || list_any f xs)) [ true ↦ refl | false ↦ found_is f xs ]
 
--- behind what is found nothing counts
+-- what is farther out doesn't matter where a rule is found
 farther_rule : (deny grant far near : Option ℕ) (denied granted : Bool) → is_some deny ≡ denied → is_some grant ≡ granted
     → MatchBool (denied || granted) (Unit {0}) (far ≡ near) → option_or (option_or deny grant) far ≡ option_or (option_or deny grant) near
 farther_rule (Some n) grant far near denied granted d g same = refl
@@ -161,12 +162,12 @@ farther_rule None None far near true granted d g same = absurd (true≢false (sy
 farther_rule None None far near false true d g same = absurd (true≢false (sym g))
 farther_rule None None far near false false d g same = same
 
--- Where nothing is asked, nothing is to be shown; else one follows from the other.
+-- Where b is true nothing is to be shown; else Q follows from P.
 pub within : (b : Bool) (P Q : Type 0) → (P → Q) → MatchBool b (Unit {0}) P → MatchBool b (Unit {0}) Q
 within true P Q f h = tt
 within false P Q f h = f h
 
--- The rule is told by the levels up to the decider.
+-- The rule depends only on the levels up to the decider.
 pub rule_settled : (grants denies : List ℕ) (levels : List Level) (rows : List (List ℕ)) → AreSettledToDecider grants denies levels rows
     → rule_of_levels grants denies levels ≡ rule_of_levels grants denies (map settled_level rows)
 rule_settled grants denies [] [] settled = refl

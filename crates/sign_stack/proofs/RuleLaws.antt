@@ -1,28 +1,28 @@
--- The rows of a document's rules give the sign and the rule that acl_model defines.
+-- The sets of the rules that select give the sign and the rule that acl_model defines.
 use Rattle.std.proofs.Common.{◌≡◌, ℕ, zero, suc, ◌+◌, ◌<◌, ◌≤◌, Bool, true, false, cond, if◌then◌else◌, ◌&&◌, ◌||◌, Option, Some, None, List, [], ◌∷◌, length, refl, ap, sym, ◌∙◌, arith, map}
 use Rattle.std.specs.List.{list_any, find, filter, slice_get, range_with_len, position, position_from}
 use Rattle.std.specs.Option.{option_map_or, option_or, option_and_then, is_some}
 use Rattle.std.proofs.lemmas.Iterator.Adapters.{position_from-zero}
 use Rattle.std.proofs.lemmas.Bool.{true≢false}
 use Rattle.acl_bits.specs.Row.{row_of, is_member}
-use Rattle.acl_bits.specs.RowLaws.{is_member-row_of}
+use Rattle.acl_bits.specs.inside.RowLaws.{is_member-row_of}
 use Rattle.acl_model.specs.Places.{prefixes}
 use Rattle.acl_model.specs.Select.{select}
 use Rattle.acl_model.specs.Decide.{is_deny, is_selected, is_denied, decider, sign_by, sign}
 use Rattle.acl_model.specs.Explain.{is_same_sign, first_rule, explanation_of}
-use Rattle.acl_model.specs.Rules.{numbers_of, numbers_of_sign}
+use Rattle.acl_model.specs.RuleNumbers.{numbers_of, numbers_of_sign}
 use Rattle.acl_model.specs.declared.document.Doc.{Doc}
 use Rattle.acl_model.specs.declared.rule.Rule.{Rule}
 use Rattle.acl_model.specs.declared.rule.Sign.{Sign}
 use Rattle.acl_model.specs.declared.rule.Sign.TheVariants.{Grant, Deny}
 use Rattle.sign_stack.specs.declared.level.Verdict.{Verdict}
 use Rattle.sign_stack.specs.declared.level.Verdict.TheVariants.{Decided, Unsettled, Inherited}
-use Rattle.sign_stack.specs.Levels.{has_rule_of, first_rule_of, verdict_at, sign_by as settled_sign, sign_of_levels, rule_of_levels}
-use Rattle.sign_stack.specs.Rules.{selecting_row, settled_level, settled_levels}
+use Rattle.sign_stack.specs.SignLevels.{has_rule_of, first_rule_of, verdict_at, sign_by as settled_sign, sign_of_levels, rule_of_levels}
+use Rattle.sign_stack.specs.RuleRows.{selecting_row, settled_level, settled_levels}
 
 -- ---- rules by their numbers
 
--- where no number passes, no number is kept
+-- where no number passes the test, the filter keeps none
 none_kept : (p : ℕ → Bool) (a n : ℕ) → ((k : ℕ) → p (a + k) ≡ false) → filter p (range_with_len a n) ≡ []
 none_kept p a zero none = refl
 none_kept p a (suc n) none =
@@ -30,7 +30,7 @@ none_kept p a (suc n) none =
     ap (λ b. cond b (a ∷ filter p (range_with_len (a + 1) n)) (filter p (range_with_len (a + 1) n))) (ap p (sym here) ∙ none 0)
     ∙ none_kept p (a + 1) n (λ k. let next : a + 1 + k ≡ a + (1 + k) = omega arith in ap p next ∙ none (1 + k))
 
--- the first of a list where a test holds comes first
+-- list_any and find over a list with its first entry kept or left out
 any_kept : (b c : Bool) (f : ℕ → Bool) (a : ℕ) (rest : List ℕ) → f a ≡ c → list_any f (cond b (a ∷ rest) rest) ≡ ((c && b) || list_any f rest)
 any_kept true true f a rest is = ap (λ x. x || list_any f rest) is
 any_kept true false f a rest is = ap (λ x. x || list_any f rest) is
@@ -82,13 +82,13 @@ numbered_test t rules k small = let same : 0 + k ≡ k = omega arith in ap (is_m
 numbered_row : (s : Rule → Bool) (rules : List Rule) (k : ℕ) → option_map_or s (slice_get rules (0 + k)) false ≡ option_map_or s (slice_get rules k) false
 numbered_row s rules k = let same : 0 + k ≡ k = omega arith in ap (λ n. option_map_or s (slice_get rules n) false) same
 
--- a row has one of these rules where some rule passes both tests
+-- the two sets share a rule exactly where some rule passes both tests
 has_rule_of-numbers : (t s : Rule → Bool) (rules : List Rule) → length rules ≤ 256 → has_rule_of (numbers_of t rules) (numbers_of s rules) ≡ list_any (λ r. t r && s r) rules
 unfolding numbers_of
 has_rule_of-numbers t s rules few =
     any_numbered t s rules (is_member (numbers_of t rules)) (λ n. option_map_or s (slice_get rules n) false) 0 256 few (numbered_test t rules) (numbered_row s rules)
 
--- the first of these rules in a row is the first rule that passes both tests
+-- the first number in both sets is that of the first rule that passes both tests
 first_rule_of-numbers : (t s : Rule → Bool) (rules : List Rule) → length rules ≤ 256 → first_rule_of (numbers_of t rules) (numbers_of s rules) ≡ position (λ r. t r && s r) rules
 unfolding numbers_of
 first_rule_of-numbers t s rules few =
@@ -111,7 +111,7 @@ one_more_rule Grant false x y = refl
 one_more_rule Deny true x y = refl
 one_more_rule Deny false x y = refl
 
--- a rule that selects denies or grants
+-- an element is selected where some denial or some grant selects it
 selected_is : (d : Doc) (place : List ℕ) (rules : List Rule)
     → is_selected d rules place ≡ (list_any (λ r. is_same_sign r.sign Deny && select d r.path place) rules || list_any (λ r. is_same_sign r.sign Grant && select d r.path place) rules)
 selected_is d place [] = refl
@@ -119,7 +119,7 @@ selected_is d place (r ∷ rules) =
     ap (λ b. select d r.path place || b) (selected_is d place rules)
     ∙ one_more_rule r.sign (select d r.path place) (list_any (λ r. is_same_sign r.sign Deny && select d r.path place) rules) (list_any (λ r. is_same_sign r.sign Grant && select d r.path place) rules)
 
--- what settled rows say, where D says that a denial is among them and G that a grant is
+-- what a settled set says: D is whether a denial is in it, G whether a grant is
 abbrev said : Bool → Bool → Verdict
 said D G = cond D (Decided Deny) (cond D Unsettled (cond G (Decided Grant) (cond G Unsettled Inherited)))
 
@@ -132,7 +132,7 @@ nearest_sign d rules place true G above farther denied is = ap (λ b. Some (cond
 nearest_sign d rules place false true above farther denied is = ap (λ b. Some (cond b Deny Grant)) (sym denied)
 nearest_sign d rules place false false above farther denied is = is
 
--- the sign by the rows of some places is that of the first of them that a rule selects
+-- the sign by the sets of some places is that of the first of them that a rule selects
 signs_along : (d : Doc) (rules : List Rule) → length rules ≤ 256 → (places : List (List ℕ))
     → sign_of_levels (numbers_of_sign Grant rules) (numbers_of_sign Deny rules) (map (λ p. settled_level (selecting_row d rules p)) places) ≡ Some (sign_by d rules (find (is_selected d rules) places))
 signs_along d rules few [] = refl
@@ -153,7 +153,7 @@ sign_is d rules place few = signs_along d rules few (prefixes place)
 
 -- ---- the rule that a sign comes from
 
--- there is a first one where there is one
+-- a first entry that passes is found exactly where there is one
 found_where : {X : Type 0} (t : X → Bool) (xs : List X) (a : ℕ) → is_some (position_from t a xs) ≡ list_any t xs
 found_where t [] a = refl
 found_where t (x ∷ xs) a = elim (t x) as (λ b. is_some (cond b (Some a) (position_from t (a + 1) xs)) ≡ (b || list_any t xs)) [ true ↦ refl | false ↦ found_where t xs (a + 1) ]
@@ -177,7 +177,7 @@ nearest_rule place signed None None farther false false places denies grants own
 abbrev told_at : Doc → List Rule → List ℕ → Option ℕ
 told_at d rules place = first_rule d rules (if is_denied d rules place then Deny else Grant) place
 
--- the rule by the rows of some places is that of the first of them that a rule selects
+-- the rule by the sets of some places is that of the first of them that a rule selects
 rules_along : (d : Doc) (rules : List Rule) → length rules ≤ 256 → (places : List (List ℕ))
     → rule_of_levels (numbers_of_sign Grant rules) (numbers_of_sign Deny rules) (map (λ p. settled_level (selecting_row d rules p)) places) ≡ option_and_then (told_at d rules) (find (is_selected d rules) places)
 rules_along d rules few [] = refl
@@ -195,7 +195,7 @@ rules_along d rules few (place ∷ places) =
     (rules_along d rules few places)
     ∙ ap (λ b. option_and_then (told_at d rules) (cond b (Some place) (find (is_selected d rules) places))) (sym (selected_is d place rules))
 
--- an explanation's rule, by the place's decider
+-- the rule of an explanation, from the decider of the place
 told_is : (d : Doc) (rules : List Rule) (place : List ℕ) (o : Option (List ℕ)) → option_and_then (told_at d rules) o ≡ option_and_then (first_rule d rules (sign_by d rules o)) o
 told_is d rules place None = refl
 told_is d rules place (Some q) = refl

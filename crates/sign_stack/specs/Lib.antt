@@ -1,2 +1,2 @@
-pub mod Levels
-pub mod Rules
+pub mod SignLevels
+pub mod RuleRows

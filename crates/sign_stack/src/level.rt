@@ -1,29 +1,30 @@
-//! What the rows of one element say: of its sign, and of the rule that the sign comes from.
+//! What the sets of rules of one element say about its sign and about the rule that decides it.
 
 ghost use Rattle.std.specs.Prelude.{◌≡◌, slice_get};
-ghost use Rattle.sign_stack.specs.Levels.{first_rule_of, rule_among, rule_at, verdict_at};
+ghost use Rattle.sign_stack.specs.SignLevels.{first_rule_of, rule_among, rule_at, verdict_at};
 
 use acl_bits::Row;
 use acl_model::Sign;
 
-/// The rules that surely select an element, and those that may.
+/// The rules that surely select an element, and those that may select it.
 #[derive(Clone, Copy, Debug)]
 pub struct Level {
     pub sure: Row,
     pub may: Row,
 }
 
-/// What the rows of an element say of its sign.
+/// What the sets of an element say about its sign.
 #[derive(Clone, Copy, Debug)]
 pub enum Verdict {
     Decided(Sign),
-    /// A rule that may select the element, and doesn't surely, would decide.
+    /// It depends on a rule that may select the element and doesn't surely.
     Unsettled,
     /// No rule selects the element: it has the sign of its parent.
     Inherited,
 }
 
-/// What the rows of an element say of its sign, where these rules grant and those deny.
+/// What the sets of an element say about its sign, where `grants` and `denies` are the rules of each
+/// sign.
 pub fn verdict_of(grants: &Row, denies: &Row, level: &Level) -> Verdict
     ensures { result ≡ verdict_at grants.now denies.now level.now }
 {
@@ -40,7 +41,7 @@ pub fn verdict_of(grants: &Row, denies: &Row, level: &Level) -> Verdict
     }
 }
 
-/// The rule that decides at an element, of those that surely select it.
+/// The rule that decides at an element, among those that surely select it.
 pub fn deciding_rule(grants: &Row, denies: &Row, level: &Level) -> Option<u16>
     ensures { result ≡ rule_at grants.now denies.now level.now }
 {
@@ -50,7 +51,7 @@ pub fn deciding_rule(grants: &Row, denies: &Row, level: &Level) -> Option<u16>
     }
 }
 
-/// The first rule of the row that is one of these rules.
+/// The first rule of `row` that is one of `rules`.
 #[tactic(auto, using(crate::proofs::LevelSteps::rule_steps))]
 fn first_rule(rules: &Row, row: &Row) -> Option<u16>
     ensures { result ≡ first_rule_of rules.now row.now }
@@ -64,7 +65,7 @@ fn first_rule(rules: &Row, row: &Row) -> Option<u16>
     None
 }
 
-/// The rule of the row that has `k` of them below it, if it is one of these rules.
+/// The `k`-th rule of `row`, counted from 0, if it is one of `rules`.
 fn rule_of_rank(rules: &Row, row: &Row, k: u16) -> Option<u16>
     ensures { result ≡ rule_among rules.now (slice_get row.now k) }
 {

@@ -1,5 +1,5 @@
-//! Signs on the way down a document: the sign of the innermost element and the rule that it comes
-//! from, by the rules that select it and its ancestors.
+//! The sign of the innermost open element and the rule that the sign comes from, computed from the
+//! rules that select the element and its ancestors.
 #![tactic(auto)]
 
 mod laws;

@@ -1,8 +1,8 @@
-//! A stack of rows, one level for each open element. The nearest level at which a rule selects
-//! decides, and a denial wins there.
+//! A stack of sets of rules, one level for each open element. The innermost level at which a rule
+//! selects decides, and a denial wins there.
 
 ghost use Rattle.std.specs.Prelude.{◌≡◌, ◌≤◌, ◌+◌, [], length, take, reverse, IfOk};
-ghost use Rattle.sign_stack.specs.Levels.{sign_of_levels, rule_of_levels, with_level};
+ghost use Rattle.sign_stack.specs.SignLevels.{sign_of_levels, rule_of_levels, with_level};
 
 use crate::level::{Level, Verdict, deciding_rule, verdict_of};
 use acl_bits::Row;
@@ -11,8 +11,8 @@ use acl_outside::NoMemory;
 use std::alloc::Global;
 use std::marker::Model;
 
-/// The rows of the open elements, the root's at level 1. Contracts see the rules of each sign, the
-/// room, and the rows.
+/// The sets of rules of the open elements, the root's at level 1. Its model, `SignStack`, is the rules
+/// of each sign, the room for levels, and the levels that are set.
 #[derive(Debug, Drop)]
 pub struct Signs {
     grants: Row,
@@ -23,7 +23,7 @@ pub struct Signs {
 
 impl Model for Signs {
     ghost use Rattle.std.specs.Prelude.{◌≤◌, vec_len, vec_capacity};
-    ghost use Rattle.sign_stack.specs.Levels.{SignStack};
+    ghost use Rattle.sign_stack.specs.SignLevels.{SignStack};
 
     ghost Value = { SignStack };
 
@@ -38,7 +38,7 @@ impl Model for Signs {
 }
 
 impl Signs {
-    /// No level is set. All memory is taken here, for `depth` levels.
+    /// A stack with no level set. All memory is taken here, for `depth` levels.
     pub fn new(alloc: Global, grants: Row, denies: Row, depth: u16) -> Result<Signs, NoMemory>
         ensures { IfOk result (λ s. s
             ≡ record { grants = grants; denies = denies; depth = depth; levels = [] }) }
@@ -51,7 +51,7 @@ impl Signs {
         })
     }
 
-    /// Sets the rows of a level, or puts them in the place of those that were set there.
+    /// Sets the sets of a level, in place of those that were there.
     pub fn set(&mut self, level: u16, sure: Row, may: Row)
         requires from_one { 1 ≤ level }
         requires room { level ≤ self.old.depth }
@@ -69,7 +69,7 @@ impl Signs {
         }
     }
 
-    /// Forgets the levels above this one.
+    /// Removes the levels with greater numbers.
     pub fn cut(&mut self, level: u16)
         ensures { self.new ≡ record self.old { levels = take level self.old.levels } }
     {
@@ -89,7 +89,7 @@ impl Signs {
             .unwrap();
     }
 
-    /// The sign of the innermost element.
+    /// The sign of the innermost element; `None` where it isn't settled yet.
     #[tactic(auto, using(crate::proofs::LevelSteps::level_steps))]
     pub fn sign(&self) -> Option<Sign>
         ensures { result
@@ -107,8 +107,8 @@ impl Signs {
         Some(Sign::Deny)
     }
 
-    /// The number of the rule that the sign of the innermost element comes from; none, where no
-    /// rule surely selects it or an element around it.
+    /// The number of the rule that decides the sign of the innermost element; `None` where no rule
+    /// surely selects it or an element around it.
     #[tactic(auto, using(crate::proofs::LevelSteps::level_steps))]
     pub fn decider(&self) -> Option<u16>
         ensures { result

@@ -1,4 +1,4 @@
-//! Rows worked out by hand, level by level.
+//! Signs worked out by hand, level by level.
 
 use super::*;
 use acl_bits::Row;
@@ -14,7 +14,8 @@ fn row(numbers: &[u8]) -> Row {
     row
 }
 
-// Rules `+ //Folder`, `- //Admin`, `+ //SSN`, after the starts of Hospital, Folder, Admin and SSN.
+// The rules are `+ //Folder`, `- //Admin` and `+ //SSN`; the elements Hospital, Folder, Admin and SSN are
+// opened in this order.
 #[test]
 fn the_nearest_level_with_a_rule_decides(rt: HostRuntime) -> Result<(), Fail> {
     let grants = row(&[0, 2]);
@@ -39,7 +40,7 @@ fn the_nearest_level_with_a_rule_decides(rt: HostRuntime) -> Result<(), Fail> {
         (Some(Sign::Grant), Some(2))
     );
 
-    // Back at Admin, and at an element beside it that no rule selects.
+    // Back at Admin, and then at a sibling of it that no rule selects.
     let mut other = Signs::new(rt.alloc(), grants, denies, 4)?;
     signs.cut(3);
     other.copy_from(&signs);
@@ -59,8 +60,8 @@ fn the_nearest_level_with_a_rule_decides(rt: HostRuntime) -> Result<(), Fail> {
     Ok(())
 }
 
-/// Rows of a level whose parent is granted by rule 3 alone, where rules 0 and 3 grant, and 1 and 4
-/// deny; and what is said there.
+/// The sets of an element, and the sign and rule to expect. Its parent is granted by rule 3 alone; rules
+/// 0 and 3 grant, and 1 and 4 deny.
 struct Case<'a> {
     what: &'a str,
     sure: &'a [u8],

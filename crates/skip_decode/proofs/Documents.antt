@@ -1,4 +1,4 @@
--- The stream of a document is read as the document, so that it is the stream of no other.
+-- The stream of a document is read as that document, so no two documents have the same stream and lengths of sections.
 use Rattle.std.proofs.Common.{◌≡◌, ℕ, ◌+◌, ◌-◌, ◌%◌, ◌^◌, ◌<◌, ◌≤◌, None, Bool, true, ◌||◌, false, nat_eq, nat_le, nat_lt, Option, Some, List, [], ◌++◌, length, replicate, map, refl, ap, sym, ◌∙◌, subst, arith, append-nil, append_assoc, length-append}
 use Rattle.std.specs.Prelude.{slice_get}
 use Rattle.std.specs.Cmp.{first_so, second_so}
@@ -6,9 +6,9 @@ use Rattle.std.specs.List.{list_all, list_any, flat_map}
 use Rattle.std.specs.Option.{option_and_then, option_map}
 use Rattle.std.proofs.lemmas.Bool.Decides.{nat_tests}
 use Rattle.std.proofs.lemmas.Option.{same_Some, some_pair_parts, none-some}
-use Rattle.acl_bits.specs.Bits.{bits_of_bytes}
+use Rattle.acl_bits.specs.FilledBits.{bits_of_bytes}
 use Rattle.acl_bits.specs.Row.{row_of}
-use Rattle.acl_model.specs.Bits.{bytes_of}
+use Rattle.acl_model.specs.StreamBits.{bytes_of}
 use Rattle.acl_model.specs.Width.{binary_length, least_width}
 use Rattle.acl_model.specs.Names.{is_name}
 use Rattle.acl_model.specs.Document.{is_well_formed, height, is_document}
@@ -21,8 +21,8 @@ use Rattle.acl_model.specs.declared.document.Element.{Element}
 use Rattle.tag_dictionary.proofs.Readings.{one_dictionary}
 use Rattle.skip_decode.specs.StreamOf.{IsStreamOf}
 use Rattle.merkle_chunks.specs.declared.header.Header.{Header}
-use Rattle.skip_decode.specs.Reading.{take_bytes, take_bits, take_child, read_element, read_tree}
-use Rattle.skip_decode.proofs.Taking.{take_bytes-front}
+use Rattle.skip_decode.specs.inside.TreeReading.{take_bytes, take_bits, take_child, read_element, read_tree}
+use Rattle.skip_decode.proofs.Taking.{take_bytes-prefix}
 use Rattle.skip_decode.proofs.Heads.{IsPart, has_member-row, numbers_with-row}
 use Rattle.skip_decode.proofs.Sizes.{width_found, width_known, part_bytes, part_bytes-element, part_grows}
 use Rattle.skip_decode.proofs.Names.{slice_get-tag_of, tag_of-below, with_names-has, is_dictionary-joined}
@@ -30,7 +30,7 @@ use Rattle.skip_decode.proofs.Items.{first_bit, take_child-read}
 use Rattle.skip_decode.proofs.Elements.{numbers_in-row, has_own_name, element_reads}
 use Rattle.skip_decode.proofs.Starts.{start_names-formed, well_formed-by, element_counted}
 
--- ---- what a document and its stream are
+-- ---- what holds for a document that has a stream
 
 well_formed_so : (d : Doc) → is_document d ≡ true → is_well_formed is_name d.root ≡ true
 well_formed_so d good = first_so (is_well_formed is_name d.root) (nat_le (height d.root) 255) good
@@ -48,7 +48,7 @@ small_so d within =
     let small : nat_le (length (dictionary_section (dictionary d)) + length (tree_section d)) 33554432 ≡ true = second_so (nat_le (length (dictionary d)) 256) (nat_le (length (dictionary_section (dictionary d)) + length (tree_section d)) 33554432) within in
     grind (arith, nat_tests)
 
--- the names of a document are a dictionary
+-- The names of a document form a valid dictionary.
 pub dictionary_formed : (d : Doc) → is_document d ≡ true → has_stream d ≡ true → is_dictionary (dictionary d) ≡ true
 dictionary_formed d good within =
     let e : Element = d.root in
@@ -58,13 +58,13 @@ dictionary_formed d good within =
     ∙ is_dictionary-joined e.name more (ap (list_all is_name) (sym (start_names_is e)) ∙ formed)
     (subst (λ (l : List (List ℕ)). length (with_names [] l) ≤ 256) (start_names_is e) (few_so d within))
 
--- and all names in it are among them
+-- All names of elements in a document are in its dictionary.
 among_so : (d : Doc) → is_document d ≡ true → is_well_formed (has_name (dictionary d)) d.root ≡ true
 among_so d good = well_formed-by is_name (has_name (dictionary d)) d.root (well_formed_so d good) (with_names-has [] (start_names d.root))
 
 -- ---- the tree section
 
--- the tree of a root under so many names, and its length by width
+-- the length of a root's tree, with this many names, for each width
 abbrev lengths : ℕ → Branch → ℕ → ℕ
 lengths names root w = size (tree_at names root w)
 
@@ -84,7 +84,7 @@ tree_section_is : (d : Doc) → tree_section d ≡ bytes_of_segments (tree_at (l
 unfolding tree_segments
 tree_section_is d = refl
 
--- a root is read from the bytes of its tree
+-- A root is read from the bytes of its tree.
 root_read : (names : List (List ℕ)) (e : Element) (deep w : ℕ) → length names ≤ 256 → is_well_formed (has_name names) e ≡ true → height e ≤ deep
     → lengths (length names) (branch_of names e) w < 2 ^ w → lengths (length names) (branch_of names e) w < 2 ^ 31
     → binary_length (lengths (length names) (branch_of names e) w) ≡ w
@@ -123,7 +123,7 @@ root_read names e deep w few good low fits small known =
     always true = refl
     always false = refl
 
--- The tree section of a document is read as the document, with as many levels as it has.
+-- The tree section of a document is read as that document, where the allowed depth is at least the document's height.
 pub tree_read : (d : Doc) (deep : ℕ) → is_document d ≡ true → has_stream d ≡ true → height d.root ≤ deep → read_tree (dictionary d) deep (tree_section d) ≡ Some d
 unfolding size
 tree_read d deep good within low =
@@ -142,69 +142,69 @@ tree_read d deep good within low =
 abbrev zeros : Doc → List ℕ
 zeros d = replicate ((256 - length (dictionary_section (dictionary d) ++ tree_section d) % 256) % 256) 0
 
--- the sections are taken off the front of the stream
+-- The dictionary section, and then the tree section, is split off the start of the stream.
 pub first_section : (d : Doc) → take_bytes (length (dictionary_section (dictionary d))) (plain d) ≡ Some (dictionary_section (dictionary d), tree_section d ++ zeros d)
 first_section d =
     ap (take_bytes (length (dictionary_section (dictionary d)))) (append_assoc (dictionary_section (dictionary d)) (tree_section d) (zeros d))
-    ∙ take_bytes-front (length (dictionary_section (dictionary d))) (dictionary_section (dictionary d)) (tree_section d ++ zeros d) refl
+    ∙ take_bytes-prefix (length (dictionary_section (dictionary d))) (dictionary_section (dictionary d)) (tree_section d ++ zeros d) refl
 
 pub second_section : (d : Doc) → take_bytes (length (tree_section d)) (tree_section d ++ zeros d) ≡ Some (tree_section d, zeros d)
-second_section d = take_bytes-front (length (tree_section d)) (tree_section d) (zeros d) refl
+second_section d = take_bytes-prefix (length (tree_section d)) (tree_section d) (zeros d) refl
 
--- Documents whose streams and lengths of sections are the same are the same.
+-- Two documents are the same where their streams and the lengths of their sections are the same.
 pub one_document : (d e : Doc) → is_document d ≡ true → is_document e ≡ true → has_stream d ≡ true → has_stream e ≡ true
     → plain d ≡ plain e → length (dictionary_section (dictionary d)) ≡ length (dictionary_section (dictionary e)) → length (tree_section d) ≡ length (tree_section e) → d ≡ e
 one_document d e good fine within inside same first second =
-    let front : ◌≡◌ {A = Option (List ℕ × List ℕ)} (Some (dictionary_section (dictionary d), tree_section d ++ zeros d)) (Some (dictionary_section (dictionary e), tree_section e ++ zeros e)) =
+    let prefix : ◌≡◌ {A = Option (List ℕ × List ℕ)} (Some (dictionary_section (dictionary d), tree_section d ++ zeros d)) (Some (dictionary_section (dictionary e), tree_section e ++ zeros e)) =
     sym (first_section d) ∙ ap (λ l. take_bytes (length (dictionary_section (dictionary d))) l) same ∙ ap (λ n. take_bytes n (plain e)) first ∙ first_section e in
-    let sections = some_pair_parts _ _ _ _ front in
+    let sections = some_pair_parts _ _ _ _ prefix in
     let back : ◌≡◌ {A = Option (List ℕ × List ℕ)} (Some (tree_section d, zeros d)) (Some (tree_section e, zeros e)) =
     sym (second_section d) ∙ ap (take_bytes (length (tree_section d))) sections.1 ∙ ap (λ n. take_bytes n (tree_section e ++ zeros e)) second ∙ second_section e in
     let trees = some_pair_parts _ _ _ _ back in
     let names : dictionary d ≡ dictionary e = one_dictionary (dictionary d) (dictionary e) (dictionary_formed d good within) (dictionary_formed e fine inside) sections.0 in
     same_Some d e (sym (tree_read d 255 good within (low_so d good)) ∙ ap (λ ns. read_tree ns 255 (tree_section d)) names ∙ ap (read_tree (dictionary e) 255) trees.0 ∙ tree_read e 255 fine inside (low_so e fine))
 
--- ---- what the reader finds in the stream of a document
+-- ---- what the reader reads from the stream of a document
 
 stream_first : (d : Doc) (stream : List ℕ) (header : Header) → IsStreamOf d stream header → take_bytes header.dictionary stream ≡ Some (dictionary_section (dictionary d), tree_section d ++ zeros d)
 stream_first d stream header of = ap (λ n. take_bytes n stream) of.dictionary ∙ ap (take_bytes (length (dictionary_section (dictionary d)))) of.bytes ∙ first_section d
 
--- its first section is there
+-- There are enough bytes for the dictionary section.
 pub first_there : (d : Doc) (stream : List ℕ) (header : Header) → IsStreamOf d stream header → take_bytes header.dictionary stream ≡ None → ⊥
 first_there d stream header of none =
     let there = stream_first d stream header of in
     none-some (dictionary_section (dictionary d), tree_section d ++ zeros d) (sym none ∙ there)
 
-stream_parts : (d : Doc) (stream : List ℕ) (header : Header) (section behind : List ℕ) → IsStreamOf d stream header → take_bytes header.dictionary stream ≡ Some (section, behind)
-    → (section ≡ dictionary_section (dictionary d)) × (behind ≡ tree_section d ++ zeros d)
-stream_parts d stream header section behind of taken = some_pair_parts section (dictionary_section (dictionary d)) behind (tree_section d ++ zeros d) (sym taken ∙ stream_first d stream header of)
+stream_parts : (d : Doc) (stream : List ℕ) (header : Header) (section after : List ℕ) → IsStreamOf d stream header → take_bytes header.dictionary stream ≡ Some (section, after)
+    → (section ≡ dictionary_section (dictionary d)) × (after ≡ tree_section d ++ zeros d)
+stream_parts d stream header section after of taken = some_pair_parts section (dictionary_section (dictionary d)) after (tree_section d ++ zeros d) (sym taken ∙ stream_first d stream header of)
 
-stream_second : (d : Doc) (stream : List ℕ) (header : Header) (section behind : List ℕ) → IsStreamOf d stream header → take_bytes header.dictionary stream ≡ Some (section, behind)
-    → take_bytes header.tree behind ≡ Some (tree_section d, zeros d)
-stream_second d stream header section behind of taken =
-    let parts = stream_parts d stream header section behind of taken in
-    ap (λ n. take_bytes n behind) of.tree ∙ ap (take_bytes (length (tree_section d))) parts.1 ∙ second_section d
+stream_second : (d : Doc) (stream : List ℕ) (header : Header) (section after : List ℕ) → IsStreamOf d stream header → take_bytes header.dictionary stream ≡ Some (section, after)
+    → take_bytes header.tree after ≡ Some (tree_section d, zeros d)
+stream_second d stream header section after of taken =
+    let parts = stream_parts d stream header section after of taken in
+    ap (λ n. take_bytes n after) of.tree ∙ ap (take_bytes (length (tree_section d))) parts.1 ∙ second_section d
 
--- so is its second
-pub second_there : (d : Doc) (stream : List ℕ) (header : Header) (section behind : List ℕ) → IsStreamOf d stream header → take_bytes header.dictionary stream ≡ Some (section, behind)
-    → take_bytes header.tree behind ≡ None → ⊥
-second_there d stream header section behind of taken none =
-    none-some (tree_section d, zeros d) (sym none ∙ stream_second d stream header section behind of taken)
+-- There are enough bytes for the tree section.
+pub second_there : (d : Doc) (stream : List ℕ) (header : Header) (section after : List ℕ) → IsStreamOf d stream header → take_bytes header.dictionary stream ≡ Some (section, after)
+    → take_bytes header.tree after ≡ None → ⊥
+second_there d stream header section after of taken none =
+    none-some (tree_section d, zeros d) (sym none ∙ stream_second d stream header section after of taken)
 
--- the first section is that of its names
-pub section_there : (d : Doc) (stream : List ℕ) (header : Header) (section behind : List ℕ) → IsStreamOf d stream header → take_bytes header.dictionary stream ≡ Some (section, behind)
+-- The first section read is the document's dictionary section, and its dictionary is valid.
+pub section_there : (d : Doc) (stream : List ℕ) (header : Header) (section after : List ℕ) → IsStreamOf d stream header → take_bytes header.dictionary stream ≡ Some (section, after)
     → (is_dictionary (dictionary d) ≡ true) × (dictionary_section (dictionary d) ≡ section)
-section_there d stream header section behind of taken =
-    let parts = stream_parts d stream header section behind of taken in
+section_there d stream header section after of taken =
+    let parts = stream_parts d stream header section after of taken in
     (dictionary_formed d of.document of.within, sym parts.0)
 
--- and its tree is read as the document
-pub document_there : (d : Doc) (stream : List ℕ) (header : Header) (section behind tree rest : List ℕ) (names : List (List ℕ)) → IsStreamOf d stream header → take_bytes header.dictionary stream ≡ Some (section, behind)
-    → take_bytes header.tree behind ≡ Some (tree, rest) → is_dictionary names ≡ true → dictionary_section names ≡ section → read_tree names header.depth tree ≡ Some d
-document_there d stream header section behind tree rest names of taken cut formed spelled =
-    let found = section_there d stream header section behind of taken in
+-- The tree section is read as the document.
+pub document_there : (d : Doc) (stream : List ℕ) (header : Header) (section after tree rest : List ℕ) (names : List (List ℕ)) → IsStreamOf d stream header → take_bytes header.dictionary stream ≡ Some (section, after)
+    → take_bytes header.tree after ≡ Some (tree, rest) → is_dictionary names ≡ true → dictionary_section names ≡ section → read_tree names header.depth tree ≡ Some d
+document_there d stream header section after tree rest names of taken cut formed spelled =
+    let found = section_there d stream header section after of taken in
     let same : names ≡ dictionary d = one_dictionary names (dictionary d) formed found.0 (spelled ∙ sym found.1) in
-    let parts = some_pair_parts tree (tree_section d) rest (zeros d) (sym cut ∙ stream_second d stream header section behind of taken) in
+    let parts = some_pair_parts tree (tree_section d) rest (zeros d) (sym cut ∙ stream_second d stream header section after of taken) in
     let deep = of.depth in
     ap (λ ns. read_tree ns header.depth tree) same ∙ ap (read_tree (dictionary d) header.depth) parts.0
     ∙ tree_read d header.depth of.document of.within (omega (arith, deep))

@@ -1,4 +1,4 @@
--- The content of an element is read as the element, and the tree section of a document as the document.
+-- The content of an element is read as that element.
 use Rattle.std.proofs.Common.{◌≡◌, ℕ, zero, suc, ◌^◌, ◌<◌, ◌≤◌, Bool, true, false, ◌&&◌, ◌||◌, nat_eq, nat_le, Option, Some, List, [], ◌∷◌, ◌++◌, length, map, refl, ap, sym, ◌∙◌, subst, arith, append_assoc, length-append}
 use Rattle.std.specs.Prelude.{slice_get}
 use Rattle.std.specs.Cmp.{first_so, second_so}
@@ -6,7 +6,7 @@ use Rattle.std.specs.List.{list_all, list_any, flat_map}
 use Rattle.std.specs.Option.{option_and_then, option_map}
 use Rattle.std.proofs.lemmas.Bool.Decides.{nat_tests}
 use Rattle.acl_bits.specs.Row.{row_of}
-use Rattle.acl_model.specs.Bits.{bytes_of}
+use Rattle.acl_model.specs.StreamBits.{bytes_of}
 use Rattle.acl_model.specs.Width.{binary_length}
 use Rattle.acl_model.specs.Document.{is_raw_attribute, is_well_formed, item_well_formed, greatest, height, height_of_item}
 use Rattle.acl_model.specs.Dictionary.{has_name}
@@ -19,17 +19,17 @@ use Rattle.acl_model.specs.declared.document.Element.{Element, roll-Element}
 use Rattle.acl_model.specs.declared.document.Item.TheVariants.{Text, Child, rolls-Text, rolls-Child}
 use Rattle.acl_model.specs.declared.document.Item.TheOpen.{Item-F}
 use Rattle.acl_model.specs.declared.document.Item.TheFolds.{ind-Element, map-Item, map-Element}
-use Rattle.skip_decode.specs.Reading.{take_count, take_attributes, take_item, take_items, read_element}
-use Rattle.skip_decode.proofs.Taking.{take_count-front, take_attributes-front}
+use Rattle.skip_decode.specs.inside.TreeReading.{take_count, take_attributes, take_item, take_items, read_element}
+use Rattle.skip_decode.proofs.Taking.{take_count-prefix, take_attributes-prefix}
 use Rattle.skip_decode.proofs.Heads.{IsPart, has_member-row, numbers_with-row}
 use Rattle.skip_decode.proofs.Sizes.{width_found, width_known, part_bytes, part_bytes-text, part_bytes-element, content_bytes, content_size, content_grows}
 use Rattle.skip_decode.proofs.Names.{slice_get-tag_of, tag_of-below}
 use Rattle.skip_decode.proofs.Loops.{take_items-none, take_items-more}
 use Rattle.skip_decode.proofs.Items.{take_item-text, take_item-child}
 
--- ---- what is shown of elements and of items
+-- ---- what is proved of elements and of items
 
--- An element is read from its content, with enough levels.
+-- The content of an element is read as that element, where the allowed depth is enough.
 abbrev pub ElementReads : List (List ℕ) → Element → Type 0
 ElementReads names e =
     is_well_formed (has_name names) e ≡ true → (deep : ℕ) → height e ≤ deep → size (branch_of names e).content < 2 ^ 31
@@ -39,18 +39,19 @@ ElementReads names e =
 abbrev Passes : (ℕ → Bool) → Part → Type 0
 Passes p part = (k : ℕ) → k < 256 → holds_number k part ≡ true → p k ≡ true
 
--- An item is read within a parent whose members pass a test, where the numbers in it pass too, whatever stands behind.
+-- An item is read in a parent whose members are a test's numbers, where the numbers in the item pass too, whatever
+-- bytes follow.
 abbrev ItemReads : List (List ℕ) → Item → Type 0
 ItemReads names item =
     item_well_formed (has_name names) item ≡ true → (deep : ℕ) → height_of_item item ≤ deep → (p : ℕ → Bool) → Passes p (part_of names item)
     → (w : ℕ) (rest : List ℕ) → length (part_bytes (row_of p) w (part_of names item)) < 2 ^ w → length (part_bytes (row_of p) w (part_of names item)) < 2 ^ 31
     → take_item (read_element names deep) names (row_of p) w (part_bytes (row_of p) w (part_of names item) ++ rest) ≡ Some (item, rest)
 
--- The numbers in the parts pass the test.
+-- The numbers in all parts pass the test.
 abbrev AllPass : (ℕ → Bool) → List Part → Type 0
 AllPass p parts = (k : ℕ) → k < 256 → list_any (holds_number k) parts ≡ true → p k ≡ true
 
--- Items are read one after the other, to the end of the bytes.
+-- Items are read up to the end of the bytes.
 abbrev ItemsRead : List (List ℕ) → List Item → Type 0
 ItemsRead names items =
     list_all (λ b. b) (map (item_well_formed (has_name names)) items) ≡ true → (deep : ℕ) → greatest (map height_of_item items) ≤ deep
@@ -61,7 +62,7 @@ ItemsRead names items =
 
 -- ---- lists of items
 
--- each part has a byte
+-- Each part has at least one byte.
 part_some : (members : List ℕ) (w : ℕ) (part : Part) → 1 ≤ length (part_bytes members w part)
 part_some members w (text_part bytes) = let is = ap length (part_bytes-text members w bytes) in omega (arith, is)
 part_some members w (element_part b) =
@@ -103,12 +104,12 @@ items_read names (pair ∷ pairs) good deep low p pass w fits small (suc n) enou
 
 -- ---- an element
 
--- the members of a content, as a set of a test
+-- The numbers in the parts, as the set of a test's numbers.
 pub numbers_in-row : (parts : List Part) → numbers_in parts ≡ row_of (λ n. list_any (holds_number n) parts)
 unfolding numbers_in
 numbers_in-row parts = numbers_with-row (λ n. list_any (holds_number n) parts)
 
--- an element is read from the bytes of its content, where its items are
+-- An element is read from the bytes of its content, where its items are read.
 content_read : (names : List (List ℕ)) (deep tag : ℕ) (members : List ℕ) (e : Element) (parts : List Part)
     → length e.attributes ≤ 65535
     → size (content_at tag members e.attributes parts (content_width tag members e.attributes parts)) < 2 ^ 31
@@ -128,8 +129,8 @@ content_read names deep tag members e parts few small read =
     ap (λ v. option_and_then (λ count. option_and_then (λ attributes.
     option_map (λ items. record { name = e.name; attributes = attributes.0; items = items }) (take_items (take_item (read_element names deep) names members v) (length attributes.1) attributes.1)) (take_attributes count.0 count.1)) (take_count bytes)) known
     ∙ ap (λ l. option_and_then (λ count. option_and_then last (take_attributes count.0 count.1)) (take_count l)) (content_bytes tag members e.attributes parts w)
-    ∙ ap (option_and_then (λ count. option_and_then last (take_attributes count.0 count.1))) (take_count-front (length e.attributes) (attributes ++ items) (omega (arith, few)))
-    ∙ ap (option_and_then last) (take_attributes-front e.attributes items (omega (arith, long, small)))
+    ∙ ap (option_and_then (λ count. option_and_then last (take_attributes count.0 count.1))) (take_count-prefix (length e.attributes) (attributes ++ items) (omega (arith, few)))
+    ∙ ap (option_and_then last) (take_attributes-prefix e.attributes items (omega (arith, long, small)))
     ∙ ap (option_map (λ items. record { name = e.name; attributes = e.attributes; items = items })) read
 
 few_attributes : (names : List (List ℕ)) (e : Element) → is_well_formed (has_name names) e ≡ true → length e.attributes ≤ 65535
@@ -221,7 +222,8 @@ item_reads : (names : List (List ℕ)) → length names ≤ 256 → (y : Item-F 
 item_reads names few (Item-F.Text bytes) = subst (ItemReads names) (sym (rolls-Text bytes)) (text_reads names bytes)
 item_reads names few (Item-F.Child pair) = subst (ItemReads names) (sym (rolls-Child pair.0)) (child_reads names few pair.0 pair.1)
 
--- The content of an element is read as the element, where the names are at most 256 and all its names are among them.
+-- The content of an element is read as that element, where there are at most 256 names and all its names are among
+-- them.
 pub element_reads : (names : List (List ℕ)) → length names ≤ 256 → (e : Element) → ElementReads names e
 element_reads names few = ind-Element (ItemReads names) (ElementReads names)
     (λ x y is. subst (λ z. ItemReads names (roll-Item z)) is (item_reads names few y))

@@ -1,4 +1,4 @@
--- Names and their numbers, and what a document's names are.
+-- Lemmas on names, their numbers in a dictionary, and the dictionary of a list of names.
 use Rattle.std.proofs.Common.{◌≡◌, ℕ, suc, ◌+◌, ◌<◌, ◌≤◌, Bool, true, false, not, ◌||◌, cond, nat_eq, ltb, None, Some, List, [], ◌∷◌, length, refl, ap, sym, ◌∙◌, ⊎_elim, arith}
 use Rattle.std.specs.Prelude.{slice_get, unwrap_or}
 use Rattle.std.specs.Cmp.{first_so, second_so}
@@ -14,7 +14,7 @@ use Rattle.acl_model.specs.Stream.{tag_of}
 use Rattle.acl_model.proofs.DictionaryLaws.{with_name-there, with_name-new, with_names-longer, list_any-position, are_new-last}
 use Rattle.tag_dictionary.proofs.Readings.{is_dictionary-made}
 
--- the name of a name's number is that name
+-- Where a name is in the list, the name at its index is that name.
 number_found : (names : List (List ℕ)) (name : List ℕ) → ltb (position_or_len (pointwise nat_eq name) names) (length names) ≡ true
     → slice_get names (position_or_len (pointwise nat_eq name) names) ≡ Some name
 number_found [] name there = absurd (false_true there)
@@ -40,16 +40,16 @@ slice_get-tag_of names name there =
     let at = sym (list_any-position (pointwise nat_eq name) names) ∙ there in
     ap (slice_get names) (tag_of_is names name at) ∙ number_found names name at
 
--- and it is below their count
+-- Where a name is in the list, its number is below the length.
 pub tag_of-below : (names : List (List ℕ)) (name : List ℕ) → has_name names name ≡ true → tag_of names name < length names
 tag_of-below names name there =
     let at = sym (list_any-position (pointwise nat_eq name) names) ∙ there in
     let is = tag_of_is names name at in
     grind (arith, nat_tests, is, at)
 
--- ---- names that join
+-- ---- adding names to a dictionary
 
--- a name that joins is there
+-- A name that is added is in the list.
 with_name-has : (names : List (List ℕ)) (name : List ℕ) → has_name (with_name names name) name ≡ true
 with_name-has names name = ⊎_elim
     (λ there. ap (λ ns. has_name ns name) (with_name-there names name there) ∙ there)
@@ -63,7 +63,7 @@ with_name-has names name = ⊎_elim
     always true = refl
     always false = refl
 
--- and none is lost
+-- Adding a name keeps the others.
 with_name-keeps : (names : List (List ℕ)) (name other : List ℕ) → has_name names other ≡ true → has_name (with_name names name) other ≡ true
 with_name-keeps names name other there = ⊎_elim
     (λ found. ap (λ ns. has_name ns other) (with_name-there names name found) ∙ there)
@@ -77,13 +77,13 @@ with_names-keeps : (names more : List (List ℕ)) (other : List ℕ) → has_nam
 with_names-keeps names [] other there = there
 with_names-keeps names (name ∷ more) other there = with_names-keeps (with_name names name) more other (with_name-keeps names name other there)
 
--- all names that join are there
+-- All names that are added are in the list.
 pub with_names-has : (names more : List (List ℕ)) → list_all (has_name (with_names names more)) more ≡ true
 with_names-has names [] = refl
 with_names-has names (name ∷ more) =
     rw (with_names-keeps (with_name names name) more name (with_name-has names name), with_names-has (with_name names name) more) refl
 
--- names that join stay apart
+-- Adding names keeps the names distinct.
 with_name-apart : (names : List (List ℕ)) (name : List ℕ) → are_new [] names ≡ true → are_new [] (with_name names name) ≡ true
 with_name-apart names name apart = ⊎_elim
     (λ there. ap (are_new []) (with_name-there names name there) ∙ apart)
@@ -94,7 +94,7 @@ with_names-apart : (names more : List (List ℕ)) → are_new [] names ≡ true 
 with_names-apart names [] apart = apart
 with_names-apart names (name ∷ more) apart = with_names-apart (with_name names name) more (with_name-apart names name apart)
 
--- and pass the test that each of them passes
+-- Where all names pass a test, the names after an addition pass it too.
 with_name-formed : (test : List ℕ → Bool) (names : List (List ℕ)) (name : List ℕ) → list_all test names ≡ true → test name ≡ true → list_all test (with_name names name) ≡ true
 with_name-formed test names name all one = ⊎_elim
     (λ there. ap (list_all test) (with_name-there names name there) ∙ all)
@@ -106,7 +106,8 @@ with_names-formed test names [] all others = all
 with_names-formed test names (name ∷ more) all others =
     with_names-formed test (with_name names name) more (with_name-formed test names name all (first_so (test name) (list_all test more) others)) (second_so (test name) (list_all test more) others)
 
--- names of the right form that join are a dictionary, where they are one at least and 256 at most
+-- Valid names, at least one and at most 256 without repeats, form a valid dictionary when they are added to an empty
+-- one.
 pub is_dictionary-joined : (name : List ℕ) (more : List (List ℕ)) → list_all is_name (name ∷ more) ≡ true → length (with_names [] (name ∷ more)) ≤ 256 → is_dictionary (with_names [] (name ∷ more)) ≡ true
 is_dictionary-joined name more formed few =
     let names : List (List ℕ) = with_names [] (name ∷ more) in

@@ -1,10 +1,10 @@
--- The bytes of parts and of contents, and that a reader knows a width from a length.
+-- The bytes of parts and contents, and that a content's width follows from its length.
 use Rattle.std.proofs.Common.{◌≡◌, ℕ, zero, suc, ◌+◌, ◌^◌, ◌<◌, ◌≤◌, ◌⊎◌, inl, inr, ⊎_elim, Bool, true, cond, nat_lt, List, [], ◌∷◌, ◌++◌, length, map, refl, ap, ◌∙◌, arith, append-nil, length-append, w16}
 use Rattle.std.specs.Int.{to_be_bytes}
 use Rattle.std.specs.List.{flat_map}
 use Rattle.std.proofs.lemmas.Bool.{cases_Bool}
 use Rattle.std.proofs.lemmas.Bool.Decides.{nat_tests}
-use Rattle.acl_model.specs.Bits.{bytes_of}
+use Rattle.acl_model.specs.StreamBits.{bytes_of}
 use Rattle.acl_model.specs.Width.{first_from, least_width, binary_length, IsLeastWidth}
 use Rattle.acl_model.specs.Stream.{attribute, bytes_of_segments, size, head_bits, measured_bytes, Part, Branch, text_part, element_part, part_segments, content_at}
 use Rattle.acl_model.proofs.WidthLaws.{least_width-least, binary_length-least}
@@ -12,7 +12,7 @@ use Rattle.acl_model.proofs.SizeLaws.{length-bytes_of, length-head_bits, bytes_o
 
 -- ---- widths
 
--- the first number that passes is found, or the one behind them all
+-- The search finds the first number that passes, or the one after the last.
 first_found : (test : ℕ → Bool) (more from : ℕ)
     → (first_from test more from ≤ from + more) × ((test (first_from test more from) ≡ true) ⊎ (first_from test more from ≡ from + more))
 unfolding first_from
@@ -33,7 +33,7 @@ first_found test (suc more) from = ⊎_elim
     ))
     (cases_Bool (test from))
 
--- Where the length with the found width is below 2^31, that width is the least one, and at most 32.
+-- A width is the least that the length fits, and at most 32.
 pub record IsWidth (size : ℕ → ℕ) (w : ℕ) : Type 0 where
   pub within : w ≤ 32
   pub least : IsLeastWidth size w
@@ -53,7 +53,7 @@ width_found size small =
           record { within = omega (arith, below); least = least_width-least size 32 (omega arith) fits }
     ]
 
--- so a reader knows the width from the length, where lengths don't fall as widths grow
+-- Where the length doesn't fall as the width grows and is below 2^31, the width is the number of its binary digits.
 pub width_known : (size : ℕ → ℕ) → ((v w : ℕ) → v ≤ w → size v ≤ size w) → size (least_width size) < 2 ^ 31
     → binary_length (size (least_width size)) ≡ least_width size
 width_known size grows small =
@@ -66,12 +66,12 @@ width_known size grows small =
 unfoldable pub part_bytes : List ℕ → ℕ → Part → List ℕ
 part_bytes members w part = bytes_of_segments (part_segments members w part)
 
--- a text
+-- The bytes of a text are its length and its bytes.
 pub part_bytes-text : (members : List ℕ) (w : ℕ) (bytes : List ℕ) → part_bytes members w (text_part bytes) ≡ measured_bytes bytes
 unfolding part_bytes
 part_bytes-text members w bytes = append-nil (measured_bytes bytes)
 
--- an element: its head, and then its content
+-- The bytes of an element are those of its head and then of its content.
 pub part_bytes-element : (members : List ℕ) (w : ℕ) (b : Branch)
     → part_bytes members w (element_part b) ≡ bytes_of (head_bits members w b.tag b.below (size b.content)) ++ bytes_of_segments b.content
 unfolding part_bytes
@@ -79,7 +79,7 @@ part_bytes-element members w b =
     ap (λ l. bytes_of (head_bits members w b.tag b.below (size b.content)) ++ l)
     (bytes_of_segments-append b.content _ ∙ append-nil (bytes_of_segments b.content))
 
--- the bytes of parts, one after the other
+-- The bytes of parts are the bytes of each, concatenated.
 parts_bytes : (members : List ℕ) (w : ℕ) (parts : List Part) → bytes_of_segments (flat_map (part_segments members w) parts) ≡ flat_map (part_bytes members w) parts
 unfolding part_bytes
 parts_bytes members w [] = refl
@@ -91,7 +91,7 @@ attributes_bytes : (raws : List (List ℕ)) → bytes_of_segments (map attribute
 attributes_bytes [] = refl
 attributes_bytes (raw ∷ raws) = ap (λ l. measured_bytes raw ++ l) (attributes_bytes raws)
 
--- the bytes of a content: how many attributes, each of them, and the parts
+-- The bytes of a content are the number of attributes, each attribute, and then the parts.
 pub content_bytes : (tag : ℕ) (members : List ℕ) (attributes : List (List ℕ)) (parts : List Part) (w : ℕ)
     → bytes_of_segments (content_at tag members attributes parts w) ≡ to_be_bytes w16 (length attributes) ++ (flat_map measured_bytes attributes ++ flat_map (part_bytes members w) parts)
 content_bytes tag members attributes parts w =
@@ -100,7 +100,7 @@ content_bytes tag members attributes parts w =
     ∙ ap (λ l. l ++ bytes_of_segments (flat_map (part_segments members w) parts)) (attributes_bytes attributes)
     ∙ ap (λ l. flat_map measured_bytes attributes ++ l) (parts_bytes members w parts))
 
--- ---- lengths grow with widths
+-- ---- lengths don't fall as widths grow
 
 head_grows : (members : List ℕ) (tag : ℕ) (below : List ℕ) (long v w : ℕ) → v ≤ w
     → length (bytes_of (head_bits members v tag below long)) ≤ length (bytes_of (head_bits members w tag below long))
@@ -131,7 +131,7 @@ parts_grow members (part ∷ parts) v w more =
     let rest = parts_grow members parts v w more in
     omega (arith, one, other, first, rest)
 
--- the length of a content
+-- the length of a content in bytes
 pub content_size : (tag : ℕ) (members : List ℕ) (attributes : List (List ℕ)) (parts : List Part) (w : ℕ)
     → size (content_at tag members attributes parts w) ≡ 2 + (length (flat_map measured_bytes attributes) + length (flat_map (part_bytes members w) parts))
 unfolding size

@@ -1,5 +1,5 @@
--- The names that an element starts: their form, and that they are among the names of the dictionary, so that the numbers in
--- its part are below the count of names.
+-- The names of the elements in an element, in document order: that they are valid and in the dictionary. So their
+-- numbers are below the number of names.
 use Rattle.std.proofs.Common.{◌≡◌, ℕ, ◌<◌, ◌⊎◌, inl, inr, Bool, true, false, ◌&&◌, ◌||◌, nat_eq, nat_le, List, [], ◌∷◌, length, map, refl, ap, sym, ◌∙◌, subst, arith}
 use Rattle.std.specs.Cmp.{first_so, second_so}
 use Rattle.std.specs.List.{list_all, list_any, flat_map}
@@ -31,12 +31,12 @@ either : (a b : Bool) → (a || b) ≡ true → (a ≡ true) ⊎ (b ≡ true)
 either true b so = inl refl
 either false b so = inr so
 
--- an element's form, but for its name
+-- whether the items of an element are well formed, its own name left out
 abbrev rest_formed : (List ℕ → Bool) → Element → Bool
 rest_formed test e = list_all (λ b. b) (map (item_well_formed test) e.items)
 
-front_so : (test : List ℕ → Bool) (e : Element) → is_well_formed test e ≡ true → (test e.name && nat_le (length e.attributes) 65535 && list_all is_raw_attribute e.attributes) ≡ true
-front_so test e good = first_so (test e.name && nat_le (length e.attributes) 65535 && list_all is_raw_attribute e.attributes) (rest_formed test e) (sym (well_formed_is test e) ∙ good)
+prefix_so : (test : List ℕ → Bool) (e : Element) → is_well_formed test e ≡ true → (test e.name && nat_le (length e.attributes) 65535 && list_all is_raw_attribute e.attributes) ≡ true
+prefix_so test e good = first_so (test e.name && nat_le (length e.attributes) 65535 && list_all is_raw_attribute e.attributes) (rest_formed test e) (sym (well_formed_is test e) ∙ good)
 
 items_so : (test : List ℕ → Bool) (e : Element) → is_well_formed test e ≡ true → rest_formed test e ≡ true
 items_so test e good = second_so (test e.name && nat_le (length e.attributes) 65535 && list_all is_raw_attribute e.attributes) (rest_formed test e) (sym (well_formed_is test e) ∙ good)
@@ -45,11 +45,11 @@ name_so : (test : List ℕ → Bool) (e : Element) → is_well_formed test e ≡
 name_so test e good =
     let own = test e.name in
     let few = nat_le (length e.attributes) 65535 in
-    first_so own few (first_so (own && few) (list_all is_raw_attribute e.attributes) (front_so test e good))
+    first_so own few (first_so (own && few) (list_all is_raw_attribute e.attributes) (prefix_so test e good))
 
--- ---- names of one form
+-- ---- one test of the names
 
--- where an element is of the right form, its names pass the test
+-- Where an element is well formed for a test of names, all its names pass the test.
 abbrev Starts : (List ℕ → Bool) → Element → Type 0
 Starts test e = is_well_formed test e ≡ true → list_all test (start_names e) ≡ true
 
@@ -80,9 +80,9 @@ start_names-formed test = ind-Element (ItemStarts test) (Starts test)
     (λ x y is. subst (λ z. ItemStarts test (roll-Item z)) is (item_starts test y))
     (λ x y is. subst (λ z. Starts test (roll-Element z)) is (element_starts test (roll-Element (map-Element ((item : Item) × ItemStarts test item) ((e : Element) × Starts test e) Item Element (λ p. p.0) (λ p. p.0) y)) (list_starts test y.items)))
 
--- ---- another test on the names
+-- ---- another test of the names
 
--- an element whose names pass another test is of the right form for that test
+-- An element that is well formed for one test, and whose names pass another, is well formed for the other.
 abbrev Turns : (List ℕ → Bool) → (List ℕ → Bool) → Element → Type 0
 Turns test other e = is_well_formed test e ≡ true → list_all other (start_names e) ≡ true → is_well_formed other e ≡ true
 
@@ -108,9 +108,9 @@ element_turns test other e inside good passes =
     let split : (other e.name && list_all other starts) ≡ true = ap (list_all other) (sym (start_names_is e)) ∙ passes in
     let few = nat_le (length e.attributes) 65535 in
     let raw = list_all is_raw_attribute e.attributes in
-    let front = front_so test e good in
-    let bounded = second_so (test e.name) few (first_so (test e.name && few) raw front) in
-    let formed = second_so (test e.name && few) raw front in
+    let prefix = prefix_so test e good in
+    let bounded = second_so (test e.name) few (first_so (test e.name && few) raw prefix) in
+    let formed = second_so (test e.name && few) raw prefix in
     well_formed_is other e
     ∙ both_so (other e.name && few && raw) (rest_formed other e)
     (both_so (other e.name && few) raw (both_so (other e.name) few (first_so (other e.name) (list_all other starts) split) bounded) formed)
@@ -127,9 +127,9 @@ well_formed-by test other = ind-Element (ItemTurns test other) (Turns test other
     (λ x y is. subst (λ z. ItemTurns test other (roll-Item z)) is (item_turns test other y))
     (λ x y is. subst (λ z. Turns test other (roll-Element z)) is (element_turns test other (roll-Element (map-Element ((item : Item) × ItemTurns test other item) ((e : Element) × Turns test other e) Item Element (λ p. p.0) (λ p. p.0) y)) (list_turns test other y.items)))
 
--- ---- numbers below the count of names
+-- ---- numbers below the number of names
 
--- Each number in a part is below the count of names.
+-- Each number in a part is below the number of names.
 abbrev IsBelow : List (List ℕ) → Part → Type 0
 IsBelow names part = (k : ℕ) → k < 256 → holds_number k part ≡ true → k < length names
 
@@ -172,7 +172,7 @@ item_counts names (Item-F.Text bytes) = subst (ItemCounts names) (sym (rolls-Tex
 item_counts names (Item-F.Child pair) = subst (ItemCounts names) (sym (rolls-Child pair.0)) (λ good k small holds.
     pair.1 (sym (item_well_formed-Child (has_name names) pair.0) ∙ good) k small (ap (holds_number k) (sym (part_of-Child names pair.0)) ∙ holds))
 
--- Where all its names are among the names, the numbers in an element are below their count.
+-- Where all names of an element are among the names, its numbers are below the number of names.
 pub element_counted : (names : List (List ℕ)) (e : Element) → Counts names e
 element_counted names = ind-Element (ItemCounts names) (Counts names)
     (λ x y is. subst (λ z. ItemCounts names (roll-Item z)) is (item_counts names y))

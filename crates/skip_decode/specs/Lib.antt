@@ -1,2 +1,2 @@
 pub mod StreamOf
-pub mod Reading
+pub mod inside

@@ -1,14 +1,14 @@
 //! Reads the raw attributes of an element.
 
 ghost use Rattle.std.specs.Prelude.{◌≡◌, None, Some, Err, IfOk};
-ghost use Rattle.skip_decode.specs.Reading.{take_attributes};
+ghost use Rattle.skip_decode.specs.inside.TreeReading.{take_attributes};
 
 use crate::take::take_measured;
 use acl_model::{Bytes, Sequence};
 use std::alloc::Global;
 use tag_dictionary::DictFault;
 
-/// So many attributes, each behind its length, and the bytes behind them.
+/// Reads `count` attributes, each after its length in four bytes. Returns them and the bytes after them.
 pub(crate) fn take_attributes(
     alloc: Global,
     count: usize,
@@ -20,11 +20,11 @@ pub(crate) fn take_attributes(
     let mut attributes = Vec::new(alloc);
     let mut rest = bytes;
     for _ in 0..count {
-        let Some((raw, behind)) = take_measured(rest) else {
+        let Some((raw, after)) = take_measured(rest) else {
             return Err(DictFault::BadIndex);
         };
         attributes.push(Bytes::from_slice(alloc, raw)?)?;
-        rest = behind;
+        rest = after;
     }
     Ok((Sequence::from_vec(attributes), rest))
 }

@@ -1,5 +1,6 @@
-//! The inverse of `plain_stream`. The bytes are read leniently, and what was read is written again: the document is the one
-//! whose stream the bytes are exactly where this gives the same bytes and numbers. So no second spelling is taken.
+//! The inverse of `plain_stream`. A lenient reader reads the bytes, and the encoder writes the result again. The
+//! document is accepted only where this gives the same bytes and numbers. So a document has at most one accepted
+//! encoding.
 
 ghost use Rattle.std.specs.Prelude.{◌≡◌, ◌↔◌, Err, IfOk, IsTrue};
 ghost use Rattle.acl_model.specs.declared.document.Doc.{Doc};
@@ -13,11 +14,11 @@ use skip_encode::{EncodeFault, Plain, plain_stream};
 use std::alloc::Global;
 use tag_dictionary::{DictFault, Dictionary};
 
-/// The most levels that a document has.
+/// The greatest depth that a document can have.
 const LEVELS: u16 = 255;
 
-/// The document of a plain stream and the numbers of its header. `BadIndex` comes exactly where no document has this
-/// stream and these numbers.
+/// Returns the document of a plain stream and the numbers of its header. The answer is `BadIndex` only where no
+/// document has this stream and these numbers.
 pub fn decode_all(alloc: Global, plain: &[u8], header: &Header) -> Result<Doc, DictFault>
     ensures document { IfOk result (λ d. IsStreamOf d plain.now header.now) }
     ensures bad { result ≡ Err DictFault.BadIndex
@@ -34,7 +35,8 @@ pub fn decode_all(alloc: Global, plain: &[u8], header: &Header) -> Result<Doc, D
     }
 }
 
-/// Reads a document from its sections. What is read from the stream of a document is that document.
+/// Reads a document from its dictionary and tree sections. The stream of a document is read as that document. Other
+/// bytes may be read as some document too.
 fn read_doc(alloc: Global, plain: &[u8], header: &Header) -> Result<Doc, DictFault>
     ensures one { IfOk result (λ read.
         (d : Doc) → IsStreamOf d plain.now header.now → read ≡ d) }
@@ -44,17 +46,17 @@ fn read_doc(alloc: Global, plain: &[u8], header: &Header) -> Result<Doc, DictFau
     if header.depth > LEVELS {
         return Err(DictFault::BadIndex);
     }
-    let Some((section, behind)) = take_bytes(plain, header.dictionary as usize) else {
+    let Some((section, after)) = take_bytes(plain, header.dictionary as usize) else {
         return Err(DictFault::BadIndex);
     };
-    let Some((tree, _)) = take_bytes(behind, header.tree as usize) else {
+    let Some((tree, _)) = take_bytes(after, header.tree as usize) else {
         return Err(DictFault::BadIndex);
     };
     let names = Dictionary::read(alloc, section)?;
     read_tree(alloc, &names, header.depth, tree)
 }
 
-/// Whether these are the bytes and the numbers that were written.
+/// Whether the encoder's answer has these bytes and the numbers of this header.
 fn is_same(written: &Plain, plain: &[u8], header: &Header) -> bool
     ensures { IsTrue result ↔ HasNumbers written.now plain.now header.now }
 {

@@ -1,7 +1,8 @@
-//! Reads elements from their contents, with no more levels than were told, so that no bytes lead deeper.
+//! Reads elements from their contents. `deep` is how many levels of elements are allowed, so recursion is bounded
+//! whatever the bytes are.
 
 ghost use Rattle.std.specs.Prelude.{◌≡◌, ◌≤◌, None, Some, Err, IfOk, length};
-ghost use Rattle.skip_decode.specs.Reading.{take_child, take_item, take_items, read_element};
+ghost use Rattle.skip_decode.specs.inside.TreeReading.{take_child, take_item, take_items, read_element};
 
 use crate::attributes::take_attributes;
 use crate::head::{binary_length, take_bits, take_head};
@@ -12,7 +13,8 @@ use sqlite_items::{Boxed, Items};
 use std::alloc::Global;
 use tag_dictionary::{DictFault, Dictionary};
 
-/// An element of a name and a set from its content.
+/// Reads the element with this name and tag set from the bytes of its content. It has at most `deep` levels of
+/// elements, itself included.
 #[cycle(elements)]
 fn read_element(
     alloc: Global,
@@ -30,10 +32,10 @@ fn read_element(
     if deep == 0 {
         return Err(DictFault::BadIndex);
     }
-    let Some((count, behind)) = take_count(bytes) else {
+    let Some((count, after)) = take_count(bytes) else {
         return Err(DictFault::BadIndex);
     };
-    let (attributes, rest) = take_attributes(alloc, count, behind)?;
+    let (attributes, rest) = take_attributes(alloc, count, after)?;
     let width = binary_length(bytes.len());
     let items = take_items(alloc, names, deep - 1, members, width, rest)?;
     Ok(Element {
@@ -43,7 +45,7 @@ fn read_element(
     })
 }
 
-/// Items up to the end of the bytes.
+/// Reads items up to the end of the bytes.
 #[cycle(elements)]
 fn take_items(
     alloc: Global,
@@ -67,9 +69,9 @@ fn take_items(
         if rest.is_empty() {
             break;
         }
-        let (item, behind) = take_item(alloc, names, deep, members, width, rest)?;
+        let (item, after) = take_item(alloc, names, deep, members, width, rest)?;
         items.push(item)?;
-        rest = behind;
+        rest = after;
     }
     if !rest.is_empty() {
         return Err(DictFault::BadIndex);
@@ -77,9 +79,10 @@ fn take_items(
     Ok(items)
 }
 
-/// An item, and the bytes behind it: an element where the first bit is 1, else a text.
+/// Reads the item at the start of the bytes: an element where the first bit is 1, else a text. Returns it and the bytes
+/// after it.
 #[cycle(elements)]
-#[tactic(auto, unfolding(crate::specs::Reading::take_item))]
+#[tactic(auto, unfolding(crate::specs::inside::TreeReading::take_item))]
 fn take_item<'a>(
     alloc: Global,
     names: &Dictionary,
@@ -110,9 +113,10 @@ fn take_item<'a>(
     }
 }
 
-/// An element with its head, of which the bits behind the first are given, and the bytes behind it.
+/// Reads the element at the start of `bytes`, and returns it and the bytes after it. `bits` are the bits of its head
+/// after the first.
 #[cycle(elements)]
-#[tactic(auto, unfolding(crate::specs::Reading::take_child))]
+#[tactic(auto, unfolding(crate::specs::inside::TreeReading::take_child))]
 pub(crate) fn take_child<'a>(
     alloc: Global,
     names: &Dictionary,
@@ -136,10 +140,10 @@ pub(crate) fn take_child<'a>(
     let Some(name) = names.name(head.tag) else {
         return Err(DictFault::BadIndex);
     };
-    let Some((_, behind)) = take_bytes(bytes, head.bytes) else {
+    let Some((_, after)) = take_bytes(bytes, head.bytes) else {
         return Err(DictFault::BadIndex);
     };
-    let Some((content, rest)) = take_bytes(behind, head.long as usize) else {
+    let Some((content, rest)) = take_bytes(after, head.long as usize) else {
         return Err(DictFault::BadIndex);
     };
     let element = read_element(alloc, names, deep, name, &head.below, content)?;

@@ -1,26 +1,26 @@
-//! The head of an element: its name's number, its tag set, and where its content ends.
+//! The head of an element: the number of its name, its tag set, and the length of its content.
 
 ghost use Rattle.std.specs.Prelude.{◌≡◌, ◌+◌, ◌-◌, ◌<◌, ◌≤◌, ◌^◌, [], None, Some, MatchOption, IfSome, slice_get, length};
 ghost use Rattle.acl_model.specs.Width.{binary_length};
-ghost use Rattle.skip_decode.specs.Reading.{take_bits, take_members, take_below, head_bytes, take_head};
+ghost use Rattle.skip_decode.specs.inside.TreeReading.{take_bits, take_members, take_below, head_bytes, take_head};
 
 use acl_bits::{BitIn, Row};
 
-/// What a head says.
+/// The fields of a head.
 #[derive(Clone, Copy, Debug)]
 pub(crate) struct Head {
     /// The number of the element's name.
     pub tag: u16,
-    /// The numbers of the names in the element.
+    /// The numbers of the names of the elements inside it.
     pub below: Row,
-    /// The bytes of the element's content.
+    /// The size of the element's content in bytes.
     pub long: u32,
-    /// The bytes of the head itself.
+    /// The size of the head itself in bytes.
     pub bytes: usize,
 }
 
-/// The number that the next `n` bits make.
-#[tactic(auto, unfolding(crate::specs::Reading::take_bits))]
+/// The number whose binary digits are the next `n` bits, the most significant first.
+#[tactic(auto, unfolding(crate::specs::inside::TreeReading::take_bits))]
 pub(crate) fn take_bits(bits: &mut BitIn<'_>, n: u32) -> Option<u32>
     requires { n ≤ 32 }
     ensures { MatchOption result
@@ -33,7 +33,7 @@ pub(crate) fn take_bits(bits: &mut BitIn<'_>, n: u32) -> Option<u32>
     }
 }
 
-/// The number of binary digits.
+/// The number of binary digits of `n`, at most 32.
 pub(crate) fn binary_length(n: usize) -> u32
     ensures length { result ≡ binary_length n }
     ensures few { result ≤ 32 }
@@ -46,8 +46,8 @@ pub(crate) fn binary_length(n: usize) -> u32
     32
 }
 
-/// The bits of a head behind its first, in a parent with these members that writes lengths in so many bits.
-#[tactic(auto, unfolding(crate::specs::Reading::take_head))]
+/// Reads the bits of a head after the first. The parent has these members, and writes lengths in `width` bits.
+#[tactic(auto, unfolding(crate::specs::inside::TreeReading::take_head))]
 pub(crate) fn take_head(bits: &mut BitIn<'_>, members: &Row, width: u32) -> Option<Head>
     requires { width ≤ 32 }
     ensures { result ≡ take_head members.now width bits.old }
@@ -67,7 +67,7 @@ pub(crate) fn take_head(bits: &mut BitIn<'_>, members: &Row, width: u32) -> Opti
     })
 }
 
-/// The member of a number.
+/// The member at an index, counted from the least.
 fn member(members: &Row, number: u32) -> Option<u16>
     ensures { result ≡ slice_get members.now number }
 {
@@ -77,8 +77,8 @@ fn member(members: &Row, number: u32) -> Option<u16>
     members.nth(number as u16)
 }
 
-/// The set of an element, of which `inner` is 1 where it has one.
-#[tactic(auto, unfolding(crate::specs::Reading::take_below))]
+/// Reads the tag set of an element where `inner` is 1. Else the set is empty.
+#[tactic(auto, unfolding(crate::specs::inside::TreeReading::take_below))]
 fn take_below(bits: &mut BitIn<'_>, members: &Row, inner: u32) -> Option<Row>
     ensures { MatchOption result
         (take_below members.now inner bits.old ≡ None)
@@ -91,7 +91,7 @@ fn take_below(bits: &mut BitIn<'_>, members: &Row, inner: u32) -> Option<Row>
     }
 }
 
-/// The members whose bit is 1, one bit for each.
+/// Reads one bit for each member, and returns the set of those whose bit is 1.
 fn take_members(bits: &mut BitIn<'_>, members: &Row) -> Option<Row>
     ensures { MatchOption result
         (take_members members.now [] bits.old ≡ None)
@@ -107,7 +107,7 @@ fn take_members(bits: &mut BitIn<'_>, members: &Row) -> Option<Row>
     Some(below)
 }
 
-/// The bytes of a head.
+/// The size of a head in bytes.
 fn head_bytes(members: u16, number_width: u32, inner: u32, width: u32) -> usize
     requires number { number_width ≤ 32 }
     requires width { width ≤ 32 }

@@ -1,4 +1,4 @@
-//! The inverse of the Skip index stream: a document from its plain stream and the numbers of its header.
+//! Decodes a Skip index stream: returns the document of a plain stream and the numbers of its header.
 #![tactic(auto)]
 
 mod attributes;

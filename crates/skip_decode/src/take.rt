@@ -1,10 +1,10 @@
-//! Takes bytes off the front of bytes, where there are enough.
+//! Splits fields off the start of a byte slice. Each call answers `None` where there are too few bytes.
 
 ghost use Rattle.std.specs.Prelude.{◌≡◌, None, Some, MatchOption};
-ghost use Rattle.skip_decode.specs.Reading.{take_bytes, take_count, take_length, take_measured};
+ghost use Rattle.skip_decode.specs.inside.TreeReading.{take_bytes, take_count, take_length, take_measured};
 
-/// The first `n` bytes, and those behind them.
-#[tactic(auto, unfolding(crate::specs::Reading::take_bytes))]
+/// The first `n` bytes, and those after them.
+#[tactic(auto, unfolding(crate::specs::inside::TreeReading::take_bytes))]
 pub(crate) fn take_bytes(bytes: &[u8], n: usize) -> Option<(&[u8], &[u8])>
     ensures { MatchOption result
         (take_bytes n bytes.now ≡ None)
@@ -16,8 +16,8 @@ pub(crate) fn take_bytes(bytes: &[u8], n: usize) -> Option<(&[u8], &[u8])>
     Some((&bytes[..n], &bytes[n..]))
 }
 
-/// The number in the first two bytes, the highest first, and the bytes behind them.
-#[tactic(auto, unfolding(crate::specs::Reading::take_count))]
+/// The big-endian number in the first two bytes, and the bytes after them.
+#[tactic(auto, unfolding(crate::specs::inside::TreeReading::take_count))]
 pub(crate) fn take_count(bytes: &[u8]) -> Option<(usize, &[u8])>
     ensures { MatchOption result
         (take_count bytes.now ≡ None)
@@ -29,8 +29,8 @@ pub(crate) fn take_count(bytes: &[u8]) -> Option<(usize, &[u8])>
     Some((u16::from_be_bytes([*high, *low]) as usize, rest))
 }
 
-/// The same of four bytes.
-#[tactic(auto, unfolding(crate::specs::Reading::take_length))]
+/// The big-endian number in the first four bytes, and the bytes after them.
+#[tactic(auto, unfolding(crate::specs::inside::TreeReading::take_length))]
 pub(crate) fn take_length(bytes: &[u8]) -> Option<(usize, &[u8])>
     ensures { MatchOption result
         (take_length bytes.now ≡ None)
@@ -43,8 +43,8 @@ pub(crate) fn take_length(bytes: &[u8]) -> Option<(usize, &[u8])>
     Some((length as usize, rest))
 }
 
-/// Bytes that have their length before them, and the bytes behind.
-#[tactic(auto, unfolding(crate::specs::Reading::take_measured))]
+/// Bytes that follow their length in four bytes, and the rest.
+#[tactic(auto, unfolding(crate::specs::inside::TreeReading::take_measured))]
 pub(crate) fn take_measured(bytes: &[u8]) -> Option<(&[u8], &[u8])>
     ensures { MatchOption result
         (take_measured bytes.now ≡ None)

@@ -1,5 +1,5 @@
-//! Streams worked out by hand, beside second spellings of the same documents, and streams with one byte changed. With ample
-//! memory.
+//! Streams worked out by hand, other encodings of the same documents, and streams with one byte changed or cut short.
+//! Memory is ample.
 
 use super::*;
 use acl_model::{Doc, Item};
@@ -9,7 +9,7 @@ use std::alloc::{AllocError, Global};
 use std::test::Fail;
 use tag_dictionary::DictFault;
 
-/// The stream of two sections.
+/// A stream of a dictionary section and a tree section, filled with zeros up to 256 bytes.
 fn filled(alloc: Global, section: &[u8], tree: &[u8]) -> Result<Vec<u8>, AllocError> {
     let mut bytes = Vec::new(alloc);
     bytes.extend_from_slice(section)?;
@@ -18,7 +18,7 @@ fn filled(alloc: Global, section: &[u8], tree: &[u8]) -> Result<Vec<u8>, AllocEr
     Ok(bytes)
 }
 
-/// The header of two sections.
+/// The header for a dictionary section and a tree section.
 fn header(section: &[u8], tree: &[u8], tags: u16, depth: u16) -> Header {
     Header {
         tree: tree.len() as u64,
@@ -29,7 +29,7 @@ fn header(section: &[u8], tree: &[u8], tags: u16, depth: u16) -> Header {
     }
 }
 
-/// The names of the root's children one after the other, and its texts.
+/// The names of the root's child elements and its texts, concatenated in order.
 fn inside(alloc: Global, doc: &Doc) -> Result<Vec<u8>, AllocError> {
     let mut bytes = Vec::new(alloc);
     for item in doc.root.items.as_slice() {
@@ -145,7 +145,7 @@ fn other_spellings_are_refused(rt: HostRuntime) -> Result<(), Fail> {
             2,
         ),
         (
-            "bits behind a head",
+            "bits after a head",
             b"\0\x01\x01a",
             b"\xa1\0\0\0\0\0\x02hi",
             1,

@@ -1,7 +1,7 @@
-//! Reads a tree section: the root within a virtual parent that has all names as its set.
+//! Reads a tree section. The root is read as the child of a virtual parent whose members are all names.
 
 ghost use Rattle.std.specs.Prelude.{◌≡◌, ◌≤◌, None, Some, Err, IfOk, length};
-ghost use Rattle.skip_decode.specs.Reading.{read_tree};
+ghost use Rattle.skip_decode.specs.inside.TreeReading.{read_tree};
 
 use crate::element::take_child;
 use crate::head::{binary_length, take_bits};
@@ -10,8 +10,8 @@ use acl_model::Doc;
 use std::alloc::Global;
 use tag_dictionary::{DictFault, Dictionary};
 
-/// The document of a tree section, which has at most so many levels.
-#[tactic(auto, unfolding(crate::specs::Reading::read_tree))]
+/// Reads the document of a tree section. It has at most `deep` levels of elements.
+#[tactic(auto, unfolding(crate::specs::inside::TreeReading::read_tree))]
 pub(crate) fn read_tree(
     alloc: Global,
     names: &Dictionary,

@@ -1,4 +1,4 @@
--- A document's stream, by what its parts are.
+-- A document's measures and stream follow from those of its names, dictionary section and tree.
 use Rattle.std.proofs.Common.{◌≡◌, ℕ, ◌+◌, ◌-◌, ◌*◌, ◌/◌, ◌≤◌, nat_le, ◌&&◌, Bool, true, List, [], ◌∷◌, ◌++◌, length, length-append, append_assoc, take, replicate, map, refl, ap, sym, ◌∙◌, arith}
 use Rattle.std.specs.List.{flat_map, range_with_len}
 use Rattle.std.specs.Cmp.{first_so, second_so}
@@ -11,25 +11,25 @@ use Rattle.acl_model.specs.Stream.{size, bytes_of_segments, element_part, branch
 use Rattle.acl_model.specs.declared.document.Doc.{Doc}
 use Rattle.acl_model.proofs.DictionaryLaws.{start_names_is, with_name-new, with_names-longer}
 use Rattle.skip_encode.specs.declared.measured.Measured.{Measured}
-use Rattle.skip_encode.specs.Measured.{IsMeasured}
-use Rattle.skip_encode.specs.Measures.{part_measures, Fits}
+use Rattle.skip_encode.specs.inside.Measured.{IsMeasured}
+use Rattle.skip_encode.specs.inside.Measures.{part_measures, Fits}
 use Rattle.skip_encode.specs.PlainStream.{sections_size, tree_under}
 use Rattle.skip_encode.proofs.Trees.{root-fits, tree-bytes, length-bytes, filled}
 
--- the tree of a document is that under its dictionary
+-- The tree section of a document is the bytes of its tree under its dictionary.
 pub tree-is : (d : Doc) → tree_section d ≡ bytes_of_segments (tree_under (dictionary d) d.root)
 unfolding tree_segments tree_under
 tree-is d = refl
 
--- a document has a name
+-- A document has at least one name.
 pub dictionary-some : (d : Doc) → 1 ≤ length (dictionary d)
 dictionary-some d =
-    let behind = flat_map (λ starts. starts) (map item_start_names d.root.items) in
-    let is : dictionary d ≡ with_names (d.root.name ∷ []) behind =
-    ap (with_names []) (start_names_is d.root) ∙ ap (λ ns. with_names ns behind) (with_name-new [] d.root.name refl) in
-    omega (arith, ap length is, with_names-longer (d.root.name ∷ []) behind)
+    let after = flat_map (λ starts. starts) (map item_start_names d.root.items) in
+    let is : dictionary d ≡ with_names (d.root.name ∷ []) after =
+    ap (with_names []) (start_names_is d.root) ∙ ap (λ ns. with_names ns after) (with_name-new [] d.root.name refl) in
+    omega (arith, ap length is, with_names-longer (d.root.name ∷ []) after)
 
--- the bytes of the sections
+-- The lengths of the dictionary section and of the tree add up to `sections_size`.
 pub sections-size : (d : Doc) (names : List (List ℕ)) (section : List ℕ) → names ≡ dictionary d → section ≡ dictionary_section names
     → length section + size (tree_under names d.root) ≡ sections_size d
 sections-size d names section is spelled =
@@ -37,19 +37,19 @@ sections-size d names section is spelled =
     ∙ ap (λ ns. length (dictionary_section ns) + size (tree_under ns d.root)) is
     ∙ ap (λ n. length (dictionary_section (dictionary d)) + n) (sym (length-bytes (tree_under (dictionary d) d.root)) ∙ ap length (sym (tree-is d)))
 
--- a test of two numbers that holds
+-- Where the comparison of two numbers is true, the first is at most the second.
 le_so : (a b : ℕ) → nat_le a b ≡ true → a ≤ b
 le_so a b is = grind (arith, nat_tests)
 
--- two tests that hold together
+-- Where two tests are true, so is their conjunction.
 both-so : (a b : Bool) → a ≡ true → b ≡ true → (a && b) ≡ true
 both-so a b p q = ap (λ x. x && b) p ∙ q
 
--- the tree under the document's own names
+-- The tree under the document's own names is as long as its tree section.
 under-own : (d : Doc) (names : List (List ℕ)) → names ≡ dictionary d → size (tree_under names d.root) ≡ length (tree_section d)
 under-own d names is = ap (λ ns. size (tree_under ns d.root)) is ∙ sym (length-bytes (tree_under (dictionary d) d.root)) ∙ ap length (sym (tree-is d))
 
--- a document that is measured, by what its parts are
+-- The result of the first pass measures the document, where each of its fields was computed as the first pass does.
 pub measured-of : (d : Doc) (m : Measured) → m.names ≡ dictionary d → length m.names ≤ 256 → m.section ≡ dictionary_section m.names
     → m.tree ≡ size (tree_under m.names d.root) → length m.section + m.tree ≤ 33554432
     → m.dictionary ≡ length m.section → m.tags ≡ length m.names → m.depth ≡ height d.root
@@ -70,7 +70,7 @@ measured-of d m is few spelled tree small long tags deep measures =
       measures = measures ∙ append-nil (part_measures (element_part (branch_of m.names d.root))) ∙ ap (λ ns. part_measures (element_part (branch_of ns d.root))) is;
     }
 
--- its two sections are within the limit
+-- The two sections of a measured document are within the limit.
 pub sections-small : (d : Doc) (m : Measured) → IsMeasured d m → m.tree + m.dictionary ≤ 33554432
 sections-small d m is =
     let within = second_so (nat_le (length (dictionary d)) 256) (nat_le (length (dictionary_section (dictionary d)) + length (tree_section d)) 33554432) is.defined in
@@ -78,7 +78,7 @@ sections-small d m is =
 
 -- ---- the second pass
 
--- the numbers of a measured document, in the words by which its tree is written
+-- what writing the tree of a measured document requires
 pub measured-few : (d : Doc) (m : Measured) → IsMeasured d m → length m.names ≤ 256
 measured-few d m is =
     let within = first_so (nat_le (length (dictionary d)) 256) (nat_le (length (dictionary_section (dictionary d)) + length (tree_section d)) 33554432) is.defined in
@@ -91,14 +91,14 @@ pub measured-members : (d : Doc) (m : Measured) (members : List ℕ) → IsMeasu
     → members ≡ range_with_len 0 (length m.names)
 measured-members d m members is all = all ∙ ap (range_with_len 0) (is.count ∙ ap length (sym is.names))
 
--- its root fits the virtual parent
+-- Its root fits the virtual parent.
 pub measured-fits : (d : Doc) (m : Measured) (members : List ℕ) (w : ℕ) → IsMeasured d m → members ≡ range_with_len 0 m.tags
     → w ≡ binary_length m.tree → Fits members w (branch_of m.names d.root)
 measured-fits d m members w is all digits =
     root-fits m.names d.root members w (omega (arith, ap length is.names, dictionary-some d)) (measured-few d m is)
     (omega (arith, measured-tree d m is, sections-small d m is)) (measured-members d m members is all) (digits ∙ ap binary_length (measured-tree d m is))
 
--- its section, its tree and zeros are its stream
+-- The bytes written, which are its dictionary section, its tree and zeros, are its stream.
 pub stream-written : (d : Doc) (m : Measured) (members : List ℕ) (w end : ℕ) (old begun written new : List ℕ) → IsMeasured d m
     → members ≡ range_with_len 0 m.tags → w ≡ binary_length m.tree → begun ≡ old ++ m.section
     → written ≡ begun ++ bytes_of_segments (part_segments members w (element_part (branch_of m.names d.root)))

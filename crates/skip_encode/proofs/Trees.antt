@@ -1,11 +1,11 @@
--- The tree of a document under its dictionary: its length by a tally, its width, and that its root fits.
+-- The tree of a document under its dictionary: its length follows from a tally, and its root fits its width.
 use Rattle.std.proofs.Common.{◌≡◌, ℕ, zero, suc, ◌+◌, ◌-◌, ◌*◌, ◌/◌, ◌%◌, ◌^◌, ◌<◌, ◌≤◌, nat_lt, take, replicate, take_all, cond, true, false, List, [], ◌∷◌, ◌++◌, length, refl, ap, sym, subst, ◌∙◌, inl, inr, append-nil, append_assoc, length-append, arith}
 use Rattle.std.specs.List.{range_with_len}
 use Rattle.std.proofs.lemmas.Bool.{cases_lt}
 use Rattle.std.proofs.lemmas.Bool.Decides.{nat_tests}
 use Rattle.std.proofs.lemmas.List.FromFn.{length-range_with_len}
 use Rattle.acl_bits.specs.Row.{row_of}
-use Rattle.acl_bits.specs.RowLaws.{numbers_below, range_with_len-more, row_of-numbers_below, is_member-row_of}
+use Rattle.acl_bits.specs.inside.RowLaws.{numbers_below, range_with_len-more, row_of-numbers_below, is_member-row_of}
 use Rattle.acl_model.specs.Width.{least_width, binary_length}
 use Rattle.acl_model.specs.Stream.{Segment, element_part, size, bytes_of_segments, rank, has_member, numbers_with, part_segments, tree_at, filled_fragments, branch_of}
 use Rattle.acl_model.specs.declared.document.Element.{Element}
@@ -13,9 +13,9 @@ use Rattle.acl_model.proofs.SizeLaws.{size-nil}
 use Rattle.acl_model.proofs.WidthLaws.{binary_length-least}
 use Rattle.skip_encode.specs.declared.measures.Measure.{Measure}
 use Rattle.skip_encode.specs.declared.tally.Tally.{Tally}
-use Rattle.skip_encode.specs.Measures.{measure_of, Fits}
+use Rattle.skip_encode.specs.inside.Measures.{measure_of, Fits}
 use Rattle.skip_encode.specs.PlainStream.{tree_under}
-use Rattle.skip_encode.specs.Tallies.{tally_of, with_element, laid_size, laid_length}
+use Rattle.skip_encode.specs.inside.Tallies.{tally_of, with_element, laid_size, laid_length}
 use Rattle.skip_encode.proofs.Widths.{least_width-same, least_width-most, binary_length-fits}
 use Rattle.skip_encode.proofs.Members.{numbers_with-row_of, has_member-is_member}
 use Rattle.skip_encode.proofs.Tallying.{with_part-size, no_parts-size, element-size, laid_size-grows}
@@ -24,7 +24,7 @@ use Rattle.skip_encode.proofs.Whole.{least_width-low, rank-fits}
 
 -- ---- the members of the virtual parent
 
--- up to c all numbers are below c
+-- All numbers below n are below c.
 below_whole : (c n : ℕ) → n ≤ c → numbers_below (λ m. nat_lt m c) n ≡ range_with_len 0 n
 unfolding numbers_below
 below_whole c zero within = refl
@@ -35,7 +35,7 @@ below_whole c (suc n) within =
     ∙ ap (λ xs. xs ++ (n ∷ [])) (below_whole c n (omega arith))
     ∙ sym (range_with_len-more 0 n ∙ ap (λ x. range_with_len 0 n ++ (x ∷ [])) last)
 
--- and none from c on
+-- No number from c on is below c.
 below_rest : (c n : ℕ) → c ≤ n → numbers_below (λ m. nat_lt m c) n ≡ range_with_len 0 c
 unfolding numbers_below
 below_rest c zero within =
@@ -45,33 +45,33 @@ below_rest c (suc n) within = elim (cases_lt n c) [
   | inl past ↦
       let same : suc n ≡ c = omega arith in
       below_whole c (suc n) (omega arith) ∙ ap (range_with_len 0) same
-  | inr behind ↦
+  | inr after ↦
       let fails : nat_lt n c ≡ false = grind (arith, nat_tests) in
       ap (λ b. numbers_below (λ m. nat_lt m c) n ++ cond b (n ∷ []) []) fails
-      ∙ append-nil (numbers_below (λ m. nat_lt m c) n) ∙ below_rest c n behind
+      ∙ append-nil (numbers_below (λ m. nat_lt m c) n) ∙ below_rest c n after
 ]
 
--- the numbers of a dictionary
+-- the set of the numbers of a dictionary's names
 pub all-members : (n : ℕ) → n ≤ 256 → numbers_with (λ k. nat_lt k n) ≡ range_with_len 0 n
 all-members n few = numbers_with-row_of (λ k. nat_lt k n) ∙ row_of-numbers_below (λ k. nat_lt k n) ∙ below_rest n 256 few
 
 length-all : (n : ℕ) → n ≤ 256 → length (numbers_with (λ k. nat_lt k n)) ≡ n
 length-all n few = ap length (all-members n few) ∙ length-range_with_len 0 n
 
--- each of them is a member
+-- Each of these numbers is a member.
 all-has : (n k : ℕ) → n ≤ 256 → k < n → has_member (numbers_with (λ m. nat_lt m n)) k ≡ true
 all-has n k few below =
     let passes : nat_lt k n ≡ true = grind (arith, nat_tests) in
     ap (λ l. has_member l k) (numbers_with-row_of (λ m. nat_lt m n))
     ∙ has_member-is_member (row_of (λ m. nat_lt m n)) k ∙ is_member-row_of (λ m. nat_lt m n) k (omega arith) ∙ passes
 
--- ---- its length
+-- ---- the length of the tree
 
 -- the tally of the root alone
 abbrev pub root_tally : List (List ℕ) → Element → Tally
 root_tally names root = tally_of 0 (element_part (branch_of names root) ∷ [])
 
--- in each width it has the bytes that the root's tally tells
+-- For each width, the length of the tree is the one that follows from the root's tally.
 pub tree-laid : (names : List (List ℕ)) (root : Element) → length names ≤ 256 → (w : ℕ)
     → size (tree_at (length names) (branch_of names root) w) ≡ laid_size (length names) (root_tally names root) w
 tree-laid names root few w =
@@ -82,7 +82,7 @@ tree-laid names root few w =
     let same : laid_size (length members) (root_tally names root) w ≡ laid_size (length names) (root_tally names root) w = ap (λ m. laid_size m (root_tally names root) w) long in
     omega (arith, all, none, size-nil, same)
 
--- and in the least too
+-- The same is true for the least width.
 pub tree-size : (names : List (List ℕ)) (root : Element) → length names ≤ 256 → size (tree_under names root) ≡ laid_length (length names) (root_tally names root)
 unfolding tree_under
 tree-size names root few =
@@ -90,16 +90,16 @@ tree-size names root few =
     let width : least_width at ≡ least_width (laid_size (length names) (root_tally names root)) = least_width-same at (laid_size (length names) (root_tally names root)) (tree-laid names root few) in
     tree-laid names root few (least_width at) ∙ ap (laid_size (length names) (root_tally names root)) width
 
--- the root's content is at most the tree
+-- The root's content is no larger than the tree.
 pub tree-part : (names : List (List ℕ)) (root : Element) → size (branch_of names root).content ≤ size (tree_under names root)
 unfolding tree_under
 tree-part names root =
     let w = least_width (λ v. size (tree_at (length names) (branch_of names root) v)) in
     omega (arith, element-size (numbers_with (λ k. nat_lt k (length names))) w (branch_of names root))
 
--- ---- its width
+-- ---- the width of the tree
 
--- it is the number of digits of its length
+-- The width is the number of binary digits of the tree's length.
 pub tree-digits : (names : List (List ℕ)) (root : Element) → length names ≤ 256 → size (tree_under names root) ≤ 33554432
     → least_width (λ w. size (tree_at (length names) (branch_of names root) w)) ≡ binary_length (size (tree_under names root))
 unfolding tree_under
@@ -111,7 +111,7 @@ tree-digits names root few small =
     (λ v below. omega (arith, tree-laid names root few v, tree-laid names root few w, laid_size-grows (length names) (root_tally names root) v w below))
     (least_width-most at) low)
 
--- the root fits it
+-- The root fits the virtual parent with this width.
 pub root-fits : (names : List (List ℕ)) (root : Element) (members : List ℕ) (w : ℕ) → 1 ≤ length names → length names ≤ 256 → size (tree_under names root) ≤ 33554432
     → members ≡ range_with_len 0 (length names) → w ≡ binary_length (size (tree_under names root)) → Fits members w (branch_of names root)
 root-fits names root members w some few small own_members own_width =
@@ -127,20 +127,20 @@ root-fits names root members w some few small own_members own_width =
       small = omega (arith, tree-part names root, small);
     }
 
--- ---- its bytes and its tally, as the code has them
+-- ---- the code's numbers for the tree
 
--- the tally of the root is that of its measure
+-- The root's measure, added to an empty tally, gives the root's tally.
 pub root-tally : (names : List (List ℕ)) (root : Element) (m : Measure) (old new : Tally) → m ≡ measure_of (branch_of names root) → old ≡ tally_of 0 [] → new ≡ with_element m old
     → new ≡ root_tally names root
 root-tally names root m old new is empty added = added ∙ ap (λ x. with_element x old) is ∙ ap (with_element (measure_of (branch_of names root))) empty
 
--- the length that is found is that of the tree
+-- The length that the code computes is that of the tree.
 pub tree-found : (names : List (List ℕ)) (root : Element) (t : Tally) (members tree : ℕ) → length names ≤ 256 → t ≡ root_tally names root → members ≡ length names → tree ≡ laid_length members t
     → tree ≡ size (tree_under names root)
 tree-found names root t members tree few is count found =
     found ∙ ap (laid_length members) is ∙ ap (λ m. laid_length m (root_tally names root)) count ∙ sym (tree-size names root few)
 
--- what is written with the numbers and the width of the virtual parent is the tree
+-- The root written in the virtual parent is the tree.
 pub tree-bytes : (names : List (List ℕ)) (root : Element) (members : List ℕ) (w : ℕ) → length names ≤ 256 → size (tree_under names root) ≤ 33554432
     → members ≡ range_with_len 0 (length names) → w ≡ binary_length (size (tree_under names root))
     → bytes_of_segments (part_segments members w (element_part (branch_of names root))) ≡ bytes_of_segments (tree_under names root)
@@ -149,7 +149,7 @@ tree-bytes names root members w few small own_members own_width =
     ap (λ l. bytes_of_segments (part_segments l w (element_part (branch_of names root)))) (own_members ∙ sym (all-members (length names) few))
     ∙ ap (λ n. bytes_of_segments (tree_at (length names) (branch_of names root) n)) (own_width ∙ sym (tree-digits names root few small))
 
--- zeros up to a whole number of fragments, behind what stood there
+-- Filling with zeros to a whole number of fragments, after bytes that were there before.
 pub filled : (old bytes : List ℕ) (end : ℕ) → end ≡ length old + 256 * ((length bytes + 255) / 256)
     → take end (old ++ bytes) ++ replicate (end - length (old ++ bytes)) 0 ≡ old ++ filled_fragments bytes
 filled old bytes end is =
@@ -159,7 +159,7 @@ filled old bytes end is =
     ∙ ap (λ n. (old ++ bytes) ++ replicate n 0) zeros
     ∙ append_assoc old bytes (replicate ((256 - length bytes % 256) % 256) 0)
 
--- as many bytes as are counted
+-- The size of segments is the number of their bytes.
 pub length-bytes : (segments : List Segment) → length (bytes_of_segments segments) ≡ size segments
 unfolding size
 length-bytes segments = refl

@@ -1,4 +1,4 @@
--- A part of a content is at most the whole, and fits the bits that its parent has for it.
+-- A part of a content is no larger than the content, and fits the bits that its parent has for it.
 use Rattle.std.proofs.Common.{◌≡◌, ℕ, zero, suc, ◌+◌, ◌-◌, ◌^◌, ◌<◌, ◌≤◌, nat_eq, nat_lt, cond, ◌||◌, Bool, true, false, List, [], ◌∷◌, length, drop, refl, ap, sym, subst, ◌∙◌, ⊎_elim, arith}
 use Rattle.std.specs.List.{flat_map, list_any}
 use Rattle.std.proofs.lemmas.Bool.{cases_Bool, true≢false}
@@ -12,15 +12,15 @@ use Rattle.acl_model.proofs.SizeLaws.{size-append, size-cons}
 use Rattle.acl_model.proofs.WidthLaws.{least_width-least, binary_length-least}
 use Rattle.acl_model.proofs.StreamEquations.{part_of-Text, part_of-Child}
 use Rattle.acl_model.proofs.ViewEquations.{item_cases}
-use Rattle.skip_encode.specs.Measures.{Fits, PartFits}
-use Rattle.skip_encode.specs.Tallies.{front_size, tally_of}
+use Rattle.skip_encode.specs.inside.Measures.{Fits, PartFits}
+use Rattle.skip_encode.specs.inside.Tallies.{prefix_size, tally_of}
 use Rattle.skip_encode.proofs.Widths.{binary_length-fits, first_from-early, first_from-most, least_width-most}
 use Rattle.skip_encode.proofs.Tallying.{content-size, tally_of-size, element-size, has_member-numbers_in, length-numbers_in, laid_size-grows}
 use Rattle.skip_encode.proofs.Contents.{parts_of, branch_of-tag, branch_of-content, branch_of_below-numbers, tag_of-small}
 
 -- ---- sizes
 
--- the parts from some place on are at most all
+-- The last parts are no larger than all parts.
 parts-drop : (members : List ℕ) (w k : ℕ) (parts : List Part) → size (flat_map (part_segments members w) (drop k parts)) ≤ size (flat_map (part_segments members w) parts)
 parts-drop members w zero parts = omega arith
 parts-drop members w (suc k) [] = omega arith
@@ -29,12 +29,12 @@ parts-drop members w (suc k) (p ∷ parts) =
     let both = size-append (part_segments members w p) (flat_map (part_segments members w) parts) in
     omega arith
 
--- parts are at most the content
+-- The parts are no larger than the content.
 content-parts : (tag : ℕ) (members : List ℕ) (attributes : List (List ℕ)) (parts : List Part) (w : ℕ)
     → size (flat_map (part_segments members w) parts) ≤ size (content_at tag members attributes parts w)
-content-parts tag members attributes parts w = omega (arith, content-size tag members attributes parts w, tally_of-size members w (front_size attributes) parts)
+content-parts tag members attributes parts w = omega (arith, content-size tag members attributes parts w, tally_of-size members w (prefix_size attributes) parts)
 
--- a part of an element is at most its content
+-- A part of an element is no larger than the element's content.
 part-size : (names : List (List ℕ)) (e : Element) (k : ℕ) (p : Part) (rest : List Part) → drop k (parts_of names e) ≡ p ∷ rest
     → (w : ℕ) → (branch_of names e).content ≡ content_at (tag_of names e.name) (numbers_in (parts_of names e)) e.attributes (parts_of names e) w
     → size (part_segments (numbers_in (parts_of names e)) w p) ≤ size (branch_of names e).content
@@ -47,7 +47,7 @@ part-size names e k p rest is w content =
 
 -- ---- widths
 
--- a width whose size is small is the least
+-- A least width whose size is below 2^32 fits, and no smaller one does.
 pub least_width-low : (size : ℕ → ℕ) → size (least_width size) < 2 ^ 32 → IsLeastWidth size (least_width size)
 unfolding least_width
 least_width-low size small = ⊎_elim
@@ -62,7 +62,7 @@ least_width-low size small = ⊎_elim
     least_width-least size (least_width size) (omega (arith, end)) (subst (λ w. size (least_width size) < 2 ^ w) (sym end) small))
     (cases_Bool (nat_lt (least_width size) 32))
 
--- the width of an element's content is the number of digits of its length
+-- The width of an element's content is the number of binary digits of its length.
 pub content_width-digits : (names : List (List ℕ)) (e : Element) → size (branch_of names e).content ≤ 33554432
     → content_width (tag_of names e.name) (numbers_in (parts_of names e)) e.attributes (parts_of names e) ≡ binary_length (size (branch_of names e).content)
 content_width-digits names e small =
@@ -70,7 +70,7 @@ content_width-digits names e small =
     let parts = parts_of names e in
     let members = numbers_in parts in
     let at : ℕ → ℕ = λ w. size (content_at tag members e.attributes parts w) in
-    let t = tally_of (front_size e.attributes) parts in
+    let t = tally_of (prefix_size e.attributes) parts in
     let w = content_width tag members e.attributes parts in
     let own : size (branch_of names e).content ≡ at w = ap size (branch_of-content names e) in
     let low = least_width-low at (omega (arith, own, small)) in
@@ -80,14 +80,14 @@ content_width-digits names e small =
     (λ v below. omega (arith, content-size tag members e.attributes parts v, content-size tag members e.attributes parts w, laid_size-grows (length members) t v w below))
     most low)
 
--- and the length is below the power of two of its digits
+-- The length is less than two to the power of this number.
 pub content-fits : (names : List (List ℕ)) (e : Element) → size (branch_of names e).content ≤ 33554432
     → size (branch_of names e).content < 2 ^ binary_length (size (branch_of names e).content)
 content-fits names e small = binary_length-fits (size (branch_of names e).content) (omega arith)
 
--- ---- numbers of members
+-- ---- indexes of members
 
--- a list that has the number counts fewer below it than it is long
+-- Where a number is in a list, fewer numbers in the list are below it than the list is long.
 rank-member : (members : List ℕ) (n : ℕ) → has_member members n ≡ true → rank members n < length members
 rank-member [] n there = absurd (true≢false (sym there))
 rank-member (m ∷ members) n there =
@@ -98,7 +98,7 @@ rank-member (m ∷ members) n there =
     (λ other. let rest = rank-member members n (grind (arith, nat_tests)) in let one : cond (nat_lt m n) 1 0 ≤ 1 = grind (arith, nat_tests) in omega (arith, more, rest, one))
     (cases_Bool (nat_eq m n))
 
--- so its rank fits the bits for it
+-- So the rank of a member fits the bits for an index.
 pub rank-fits : (members : List ℕ) (n : ℕ) → length members ≤ 256 → has_member members n ≡ true → rank members n < 2 ^ binary_length (length members - 1)
 rank-fits members n few there =
     let below = rank-member members n there in
@@ -107,7 +107,7 @@ rank-fits members n few there =
 
 -- ---- a part fits
 
--- a number that a part from some place on holds is one of the members
+-- A number in the last parts is in one of all parts.
 held-drop : (n k : ℕ) (parts : List Part) → list_any (holds_number n) (drop k parts) ≡ true → list_any (holds_number n) parts ≡ true
 held-drop n zero parts held = held
 held-drop n (suc k) [] held = held
@@ -118,11 +118,11 @@ held-drop n (suc k) (p ∷ parts) held =
     or-true true = refl
     or-true false = refl
 
--- an element holds its own number
+-- An element contains the number of its own name.
 holds-own : (b : Branch) (rest : List Part) → list_any (holds_number b.tag) (element_part b ∷ rest) ≡ true
 holds-own b rest = grind (arith, nat_tests)
 
--- a text fits its four bytes
+-- A text's length fits four bytes.
 text-fits : (names : List (List ℕ)) (e : Element) (k : ℕ) (bytes : List ℕ) (rest : List Part) → size (branch_of names e).content ≤ 33554432
     → drop k (parts_of names e) ≡ text_part bytes ∷ rest → length bytes < 2 ^ 32
 text-fits names e k bytes rest small is =
@@ -132,7 +132,7 @@ text-fits names e k bytes rest small is =
     let long : length (segment_bytes (words bytes)) ≡ 4 + length bytes = omega arith in
     omega (arith, part, own, long, small)
 
--- a child element fits its parent
+-- A child element fits its parent.
 child-fits : (names : List (List ℕ)) (e child : Element) (k : ℕ) (rest : List Part) → length names ≤ 256 → size (branch_of names e).content ≤ 33554432
     → drop k (parts_of names e) ≡ element_part (branch_of names child) ∷ rest
     → Fits (branch_of names e).below (binary_length (size (branch_of names e).content)) (branch_of names child)
@@ -153,7 +153,7 @@ child-fits names e child k rest few small is =
       small = omega (arith, part, own, small);
     }
 
--- an item fits its element
+-- An item fits the element that contains it.
 pub item-fits : (names : List (List ℕ)) (e : Element) (k : ℕ) (rest : List Part) (item : Item) → length names ≤ 256 → size (branch_of names e).content ≤ 33554432
     → drop k (parts_of names e) ≡ part_of names item ∷ rest
     → PartFits (branch_of names e).below (binary_length (size (branch_of names e).content)) (part_of names item)

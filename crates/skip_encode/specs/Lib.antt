@@ -1,6 +1,3 @@
 pub mod PlainStream
 pub mod EncodedFile
-pub mod Faults
-pub mod Measured
-pub mod Measures
-pub mod Tallies
+pub mod inside

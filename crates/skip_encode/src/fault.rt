@@ -1,8 +1,8 @@
-//! Why a document has no stream, and so no file. Each answer has one cause.
+//! Why encoding fails. Each answer has one cause.
 
 ghost use Rattle.std.specs.Prelude.{◌≡◌};
 ghost use Rattle.skip_encode.specs.declared.fault.EncodeFault.TheVariants as encode;
-ghost use Rattle.skip_encode.specs.Faults.{fault_of_tags, fault_of_measures};
+ghost use Rattle.skip_encode.specs.inside.Faults.{fault_of_tags, fault_of_measures};
 
 use crate::measure_fault::MeasureFault;
 use acl_outside::NoMemory;
@@ -10,16 +10,16 @@ use std::alloc::AllocError;
 use tag_dictionary::TagFault;
 use thiserror::Error;
 
-/// Why a document has no stream and no file, or none was made.
+/// Why a document is not encoded: it has no stream, or memory ran out.
 #[derive(Debug, Drop, Error)]
 pub enum EncodeFault {
     /// The document has more than 256 names.
     #[error("the document has more than 256 names")]
     TooManyTags,
-    /// Its dictionary and its tree have together more than 33,554,432 bytes.
+    /// Its dictionary section and its tree section together have more than 33,554,432 bytes.
     #[error("the dictionary and the tree have more than 33,554,432 bytes")]
     TooLarge,
-    /// There was no memory for the stream or the file, or for what is kept while it is made.
+    /// There isn't enough memory for the stream, the file, the measures or the names.
     #[error("no memory")]
     NoMemory,
 }

@@ -16,12 +16,12 @@ use aes_block::Key128;
 use merkle_chunks::{Header, key_check, root_of, table_len};
 use std::alloc::Global;
 
-/// The file of a document under a key, and its root. `TooManyTags` comes exactly where the document has more than 256
-/// names, and `TooLarge` where it hasn't and its two sections have together more than 33,554,432 bytes, as for
-/// `plain_stream`.
+/// Returns the file of a document under a key, and its root. Answers `TooManyTags` only where the document has more
+/// than 256 names. Answers `TooLarge` only where it has at most 256 names and its two sections together have more than
+/// 33,554,432 bytes.
 ///
-/// Beside what measuring keeps, the file takes one allocation of its size: the stream is written behind the header and
-/// enciphered where it lies, and each fragment is hashed once, into the table behind the stream.
+/// The file is one allocation of its size, in addition to what measuring keeps. The stream is written after the header
+/// and enciphered in place. Each fragment is hashed once, into the table after the stream.
 pub fn encode_file(alloc: Global, doc: &Doc, key: [u8; 16]) -> Result<Encoded, EncodeFault>
     requires { is_document doc.now ≡ true }
     ensures file { IfOk result (λ e. IsFileOf doc.now key e) }
@@ -37,16 +37,16 @@ pub fn encode_file(alloc: Global, doc: &Doc, key: [u8; 16]) -> Result<Encoded, E
         depth: measured.depth,
         check: key_check(&key),
     };
-    let front = header.write();
+    let prefix = header.write();
     let stream = measured.stream_len();
     let end = HEADER + stream + table_len((stream / FRAGMENT) as u32);
     let mut bytes = Vec::with_capacity(alloc, end)?;
-    bytes.extend_from_slice(&front)?;
+    bytes.extend_from_slice(&prefix)?;
     measured.write(doc, &mut bytes)?;
     bytes.resize(end, 0)?;
     let top = lock_file(&Key128::new(key), &mut bytes, stream);
     Ok(Encoded {
         bytes: Bytes::from_vec(bytes),
-        root: root_of(&front, &top),
+        root: root_of(&prefix, &top),
     })
 }

@@ -1,7 +1,7 @@
-//! The heads of elements: each is written in bits, within what its parent lends.
+//! The heads of elements. A head is a string of bits whose form depends on the parent's members and width.
 
 ghost use Rattle.std.specs.Prelude.{◌≡◌, ◌+◌, ◌-◌, ◌<◌, ◌≤◌, ◌^◌, ◌++◌, length, OnOk};
-ghost use Rattle.acl_model.specs.Bits.{bytes_of};
+ghost use Rattle.acl_model.specs.StreamBits.{bytes_of};
 ghost use Rattle.acl_model.specs.Width.{binary_length};
 ghost use Rattle.acl_model.specs.Stream.{rank, set_bits, head_bits};
 ghost use Rattle.acl_bits.specs.Row.{row_of, is_member};
@@ -10,16 +10,16 @@ use crate::measures::Measure;
 use acl_bits::{BitOut, Row};
 use std::alloc::AllocError;
 
-/// What an element lends the heads of its children.
+/// What the heads of an element's children depend on.
 #[derive(Debug, Drop)]
 pub(crate) struct Parent {
-    /// The numbers of the names inside it.
+    /// The numbers of the names of the elements inside it.
     pub(crate) members: Row,
-    /// In how many bits the lengths of its children's contents are written.
+    /// The number of bits in which the lengths of its children's contents are written.
     pub(crate) width: u32,
 }
 
-/// The number of binary digits.
+/// The number of binary digits of `n`.
 pub(crate) fn binary_length(n: u32) -> u32
     ensures digits { result ≡ binary_length n }
     ensures few { result ≤ 32 }
@@ -53,7 +53,8 @@ pub(crate) fn write_head(
     Ok(())
 }
 
-/// Adds the bits of a tag set: the bit 0 of the empty set; else the bit 1, and a bit for each member of the parent's set.
+/// Appends the bits of a tag set. The empty set is the bit 0. Any other is the bit 1 and one bit for each member of the
+/// parent's set.
 fn put_set(bits: &mut BitOut, members: &Row, below: &Row)
     requires room { length bits.old ≤ 9 }
     requires row { row_of (is_member members.now) ≡ members.now }

@@ -1,11 +1,11 @@
-//! How deep elements stand in each other.
+//! How deep elements are nested.
 
 ghost use Rattle.std.specs.Prelude.{◌≡◌, ◌≤◌};
 ghost use Rattle.acl_model.specs.Document.{height, height_of_item};
 
 use acl_model::{Element, Item};
 
-/// The greatest number of elements that stand in each other, the outermost counted.
+/// The greatest number of elements that are nested in each other, this one included.
 #[cycle(tree)]
 #[tactic(auto, using(acl_model::proofs::FormEquations::form_equations))]
 pub(crate) fn height(element: &Element) -> u16
@@ -19,7 +19,7 @@ pub(crate) fn height(element: &Element) -> u16
     greatest + 1
 }
 
-/// The same of an item, and 0 of a text.
+/// The height of a child element, or 0 for a text.
 #[cycle(tree)]
 #[tactic(auto, using(acl_model::proofs::FormEquations::form_equations))]
 fn height_of_item(item: &Item) -> u16

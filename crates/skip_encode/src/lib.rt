@@ -1,5 +1,6 @@
-//! Writes a document as its Skip index stream, in two passes: the first measures the contents from the leaves upwards,
-//! and the second writes each byte once. An encrypted file is made around the stream, where the stream lies.
+//! Writes a document as its Skip index stream, in two passes. The first measures the contents from the leaves upwards,
+//! and the second writes each byte once. `encode_file` also makes the encrypted file, in which the stream is enciphered
+//! in place.
 #![tactic(auto)]
 
 mod encoded;

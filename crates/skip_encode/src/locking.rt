@@ -1,4 +1,4 @@
-//! A stream is enciphered where it lies in the file, and the table over it is written behind it.
+//! Enciphers a stream in place in its file, and writes the table of digests after it.
 
 ghost use Rattle.std.specs.Prelude.{◌≡◌, ◌+◌, ◌*◌, ◌/◌, ◌%◌, ◌≤◌, ◌++◌, length, take, drop};
 ghost use Rattle.sha2.specs.Sha256.{sha256};
@@ -11,14 +11,14 @@ use aes_block::Key128;
 use merkle_chunks::{Digest, write_table};
 use position_cipher::lock_fragment;
 
-/// The bytes of a header.
+/// The size of a file's header in bytes.
 pub(crate) const HEADER: usize = 64;
 
-/// The bytes of a fragment.
+/// The size of a fragment in bytes.
 pub(crate) const FRAGMENT: usize = 256;
 
-/// Enciphers the stream that stands behind a file's header, and writes the table over it into the room behind it. The top
-/// digest is answered.
+/// Enciphers the stream after a file's header, and writes the table of digests into the room after the stream. Returns
+/// the top digest.
 pub(crate) fn lock_file(key: &Key128, file: &mut [u8], stream_len: usize) -> Digest
     requires key { AreBytes 16 key.now }
     requires whole { stream_len % 256 ≡ 0 }
@@ -31,8 +31,8 @@ pub(crate) fn lock_file(key: &Key128, file: &mut [u8], stream_len: usize) -> Dig
     ensures top { let cipher = locked_stream key.now (take stream_len (drop 64 file.old)) in
         result ≡ top_digest sha256 (fragments cipher) }
 {
-    let (front, table) = file.split_at_mut(HEADER + stream_len);
-    let (_, stream) = front.split_at_mut(HEADER);
+    let (prefix, table) = file.split_at_mut(HEADER + stream_len);
+    let (_, stream) = prefix.split_at_mut(HEADER);
     lock_fragments(key, stream);
     write_table(stream, table)
 }
@@ -50,7 +50,7 @@ fn lock_fragments(key: &Key128, stream: &mut [u8])
     }
 }
 
-/// Enciphers the piece of a stream that is the fragment of an index.
+/// Enciphers the fragment at an index of the stream.
 fn lock_piece(key: &Key128, index: u32, piece: &mut [u8])
     requires { length piece.old ≡ 256 }
     ensures { piece.new ≡ locked_fragment key.now index piece.old }

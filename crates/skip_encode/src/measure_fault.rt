@@ -1,16 +1,16 @@
-//! Why contents are not measured. Each answer has one cause.
+//! Why the first pass fails. Each answer has one cause.
 
 ghost use Rattle.std.specs.Prelude.{◌≡◌};
 ghost use Rattle.skip_encode.specs.declared.measure_fault.MeasureFault.TheVariants as measure;
 
 use std::alloc::AllocFailed;
 
-/// Why the first pass ends before all is measured.
+/// Why the first pass fails.
 #[derive(Clone, Copy, Debug)]
 pub(crate) enum MeasureFault {
     /// What was measured so far is above the limit.
     TooLarge,
-    /// There was no memory for the measures.
+    /// There isn't enough memory for the measures.
     NoMemory,
 }
 

@@ -1,10 +1,10 @@
-//! The two passes over a document: the second writes its stream by what the first has found.
+//! The two passes over a document. The first measures it, and the second writes its stream from the measures.
 
 ghost use Rattle.std.specs.Prelude.{◌≡◌, ◌+◌, ◌*◌, ◌/◌, ◌<◌, ◌≤◌, ◌++◌, true, Err, IfOk, OnOk, length, vec_len};
 ghost use Rattle.acl_model.specs.Document.{is_document};
 ghost use Rattle.acl_model.specs.Dictionary.{dictionary};
 ghost use Rattle.acl_model.specs.Stream.{plain};
-ghost use Rattle.skip_encode.specs.Measured.{IsMeasured};
+ghost use Rattle.skip_encode.specs.inside.Measured.{IsMeasured};
 ghost use Rattle.skip_encode.specs.PlainStream.{sections_size};
 ghost use Rattle.skip_encode.specs.declared.fault.EncodeFault.TheVariants as fault;
 
@@ -20,16 +20,16 @@ use acl_model::{Bytes, Doc};
 use std::alloc::{AllocError, Global};
 use tag_dictionary::Dictionary;
 
-/// What the first pass has found of a document whose stream is not written yet.
+/// The result of the first pass over a document whose stream isn't written yet.
 #[derive(Debug, Drop)]
 pub(crate) struct Measured {
-    /// How many bytes its tree section has.
+    /// The length of its tree section in bytes.
     pub(crate) tree: u64,
-    /// How many bytes its dictionary section has.
+    /// The length of its dictionary section in bytes.
     pub(crate) dictionary: u32,
     /// The number of its names.
     pub(crate) tags: u16,
-    /// The greatest number of elements that are open at once.
+    /// Its depth: the greatest number of elements nested in each other, the root included.
     pub(crate) depth: u16,
     /// Its names.
     names: Dictionary,
@@ -40,8 +40,8 @@ pub(crate) struct Measured {
 }
 
 impl Measured {
-    /// The first pass. `TooManyTags` comes exactly where the document has more than 256 names, and `TooLarge` where it
-    /// hasn't and its two sections have together more than 33,554,432 bytes.
+    /// The first pass. Answers `TooManyTags` only where the document has more than 256 names. Answers `TooLarge` only
+    /// where it has at most 256 names and its two sections together have more than 33,554,432 bytes.
     pub(crate) fn of(alloc: Global, doc: &Doc) -> Result<Measured, EncodeFault>
         requires { is_document doc.now ≡ true }
         ensures measured { IfOk result (λ m. IsMeasured doc.now m) }
@@ -64,7 +64,7 @@ impl Measured {
         })
     }
 
-    /// How many bytes the stream has, the zeros at its end counted.
+    /// The length of the stream in bytes, with the zeros at its end.
     pub(crate) fn stream_len(&self) -> usize
         requires { self.now.tree + self.now.dictionary ≤ 33554432 }
         ensures { result ≡ 256 * ((self.now.tree + self.now.dictionary + 255) / 256) }
@@ -72,11 +72,11 @@ impl Measured {
         (self.tree as usize + self.dictionary as usize).next_multiple_of(FRAGMENT)
     }
 
-    /// The second pass: writes the stream behind what stands in the buffer, at most a header.
+    /// The second pass: appends the stream to the buffer, which contains at most a header.
     pub(crate) fn write(mut self, doc: &Doc, bytes: &mut Vec<u8>) -> Result<(), AllocError>
         requires document { is_document doc.now ≡ true }
         requires measured { IsMeasured doc.now self }
-        requires front { vec_len bytes.old ≤ 64 }
+        requires prefix { vec_len bytes.old ≤ 64 }
         ensures { OnOk result (bytes.new.items ≡ bytes.old.items ++ plain doc.now) }
     {
         let parent = Parent {

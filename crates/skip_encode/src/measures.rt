@@ -1,5 +1,5 @@
-//! What the first pass tells the second: the measure of each element. The first pass goes from the last element to the
-//! first, so what it puts on last is taken off first.
+//! The measures of elements, which the first pass makes and the second uses. The first pass goes from the last element
+//! to the first, so the measures are on a stack: the second pass pops the first element's measure first.
 
 ghost use Rattle.std.specs.Prelude.{◌≡◌, ◌≤◌, [], ◌∷◌, length, drop, OnOk};
 
@@ -12,13 +12,13 @@ use std::marker::Model;
 pub(crate) struct Measure {
     /// The number of its name.
     pub(crate) tag: u16,
-    /// The numbers of the names inside it.
+    /// The numbers of the names of the elements inside it.
     pub(crate) below: Row,
-    /// How many bytes its content has.
+    /// The size of its content in bytes.
     pub(crate) long: u32,
 }
 
-/// Measures, of which the one put on last is taken off first. Contracts see that one first.
+/// A stack of measures. In contracts it is the list of them, the one pushed last first.
 #[derive(Debug, Drop)]
 pub(crate) struct Measures {
     stack: Vec<Measure>,
@@ -43,14 +43,14 @@ impl Measures {
         }
     }
 
-    /// Puts a measure on.
+    /// Pushes a measure.
     pub(crate) fn push(&mut self, measure: Measure) -> Result<(), AllocFailed<Measure>>
         ensures { OnOk result (self.new ≡ measure ∷ self.old) }
     {
         self.stack.push(measure)
     }
 
-    /// The measure that was put on last.
+    /// The measure that was pushed last.
     pub(crate) fn last(&self) -> &Measure
         requires { 1 ≤ length self.now }
         ensures { self.now ≡ result.now ∷ drop 1 self.now }
@@ -58,7 +58,7 @@ impl Measures {
         &self.stack[self.stack.len() - 1]
     }
 
-    /// Takes off the measure that was put on last.
+    /// Removes and returns the measure that was pushed last.
     pub(crate) fn pop(&mut self) -> Measure
         requires { 1 ≤ length self.old }
         ensures { self.old ≡ result ∷ self.new }

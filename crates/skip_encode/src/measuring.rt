@@ -1,11 +1,11 @@
-//! The first pass: contents are measured from the leaves upwards, and from the last element to the first.
+//! The first pass: measures contents from the leaves upwards, and from the last element to the first.
 
 ghost use Rattle.std.specs.Prelude.{◌≡◌, ◌+◌, ◌<◌, ◌≤◌, ◌++◌, Err, IfOk, OnOk, length};
 ghost use Rattle.acl_model.specs.Stream.{size, branch_of, part_of, element_part};
 ghost use Rattle.skip_encode.specs.declared.measure_fault.MeasureFault.TheVariants as fault;
-ghost use Rattle.skip_encode.specs.Measures.{part_measures};
+ghost use Rattle.skip_encode.specs.inside.Measures.{part_measures};
 ghost use Rattle.skip_encode.specs.PlainStream.{tree_under};
-ghost use Rattle.skip_encode.specs.Tallies.{IsSmall, front_size, with_part};
+ghost use Rattle.skip_encode.specs.inside.Tallies.{IsSmall, prefix_size, with_part};
 
 use crate::measure_fault::MeasureFault;
 use crate::measures::{Measure, Measures};
@@ -13,8 +13,8 @@ use crate::tally::{LIMIT, Tally, within_limit};
 use acl_model::{Bytes, Element, Item};
 use tag_dictionary::Dictionary;
 
-/// Measures the elements of a document under its dictionary, whose section is given. The length of the tree section is
-/// answered. `TooLarge` comes where the two sections are above the limit.
+/// Measures the elements of a document under its dictionary, whose section is given. Returns the length of the tree
+/// section, or `TooLarge` where the two sections together are above the limit.
 pub(crate) fn measure_tree(
     measures: &mut Measures,
     names: &Dictionary,
@@ -39,7 +39,7 @@ pub(crate) fn measure_tree(
     Ok(tree as u32)
 }
 
-/// Measures an element and those inside it. `TooLarge` comes where its content alone is above the limit.
+/// Measures an element and those inside it. Answers `TooLarge` where its content alone is above the limit.
 #[cycle(tree)]
 pub(crate) fn measure_element(
     measures: &mut Measures,
@@ -53,7 +53,7 @@ pub(crate) fn measure_element(
     ensures large { result ≡ Err fault.TooLarge
         → 33554432 < size (branch_of names.now element.now).content }
 {
-    let mut tally = Tally::new(front_size(element.attributes.as_slice())?);
+    let mut tally = Tally::new(prefix_size(element.attributes.as_slice())?);
     let mut items = element.items.as_slice();
     while let [before @ .., last] = items {
         measure_item(measures, names, last, &mut tally)?;
@@ -94,11 +94,12 @@ fn measure_item(
     }
 }
 
-/// The bytes in front of an element's items: two for the number of its attributes, and four beside those of each.
-fn front_size(attributes: &[Bytes]) -> Result<u64, MeasureFault>
-    ensures size { IfOk result (λ bytes. bytes ≡ front_size attributes.now) }
+/// The size of what comes before an element's items: two bytes for the number of its attributes, and for each attribute
+/// its bytes and four for its length.
+fn prefix_size(attributes: &[Bytes]) -> Result<u64, MeasureFault>
+    ensures size { IfOk result (λ bytes. bytes ≡ prefix_size attributes.now) }
     ensures small { IfOk result (λ bytes. bytes ≤ 33554432) }
-    ensures large { result ≡ Err fault.TooLarge → 33554432 < front_size attributes.now }
+    ensures large { result ≡ Err fault.TooLarge → 33554432 < prefix_size attributes.now }
 {
     let mut bytes = 2;
     for raw in attributes {

@@ -1,18 +1,18 @@
-//! A document's plain stream.
+//! The answer of `plain_stream`.
 
 use acl_model::Bytes;
 
-/// A plain stream, and the numbers by which it is read.
+/// A plain stream, and the numbers of the header that a reader needs.
 #[derive(Debug, Drop)]
 pub struct Plain {
-    /// The dictionary section, the tree section, and zeros up to a whole fragment of 256 bytes.
+    /// The dictionary section, the tree section, and zeros up to a multiple of 256 bytes, the size of a fragment.
     pub bytes: Bytes,
-    /// How many bytes the tree section has.
+    /// The length of the tree section in bytes.
     pub tree: u64,
-    /// How many bytes the dictionary section has.
+    /// The length of the dictionary section in bytes.
     pub dictionary: u32,
     /// The number of names.
     pub tags: u16,
-    /// The greatest number of elements that are open at once.
+    /// The depth: the greatest number of elements nested in each other, the root included.
     pub depth: u16,
 }

@@ -1,4 +1,4 @@
-//! The plain stream of a document: its dictionary, its tree and zeros.
+//! The plain stream of a document: its dictionary section, its tree section and zeros.
 
 ghost use Rattle.std.specs.Prelude.{◌≡◌, ◌<◌, ◌≤◌, true, Err, IfOk, length};
 ghost use Rattle.acl_model.specs.Document.{is_document};
@@ -12,8 +12,9 @@ use crate::plain::Plain;
 use acl_model::{Bytes, Doc};
 use std::alloc::Global;
 
-/// The plain stream of a document, and the numbers of its header. `TooManyTags` comes exactly where the document has more
-/// than 256 names, and `TooLarge` where it hasn't and its two sections have together more than 33,554,432 bytes.
+/// Returns the plain stream of a document, and the numbers of its header. Answers `TooManyTags` only where the document
+/// has more than 256 names. Answers `TooLarge` only where it has at most 256 names and its two sections together have
+/// more than 33,554,432 bytes.
 pub fn plain_stream(alloc: Global, doc: &Doc) -> Result<Plain, EncodeFault>
     requires { is_document doc.now ≡ true }
     ensures stream { IfOk result (λ p. IsPlainOf doc.now p) }

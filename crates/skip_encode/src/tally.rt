@@ -1,33 +1,33 @@
-//! A count of a content's parts. The width of a content follows from it, so that no content is written to find it.
+//! A count of a content's parts. A content's width follows from this count, so the content needn't be written first.
 
 ghost use Rattle.std.specs.Prelude.{◌≡◌, ◌+◌, ◌-◌, ◌<◌, ◌≤◌, [], Err, IfOk, OnOk, length};
 ghost use Rattle.acl_model.specs.Width.{least_width, binary_length};
 ghost use Rattle.skip_encode.specs.declared.measure_fault.MeasureFault.TheVariants as fault;
-ghost use Rattle.skip_encode.specs.Tallies.{IsSmall, tally_of, with_text, with_element, laid_size, laid_length};
+ghost use Rattle.skip_encode.specs.inside.Tallies.{IsSmall, tally_of, with_text, with_element, laid_size, laid_length};
 
 use crate::heads::binary_length;
 use crate::measure_fault::MeasureFault;
 use crate::measures::Measure;
 use acl_bits::Row;
 
-/// The most bytes that a dictionary and a tree have together.
+/// The greatest length in bytes that a dictionary section and a tree section may have together.
 pub(crate) const LIMIT: u64 = 33_554_432;
 
 /// The parts of a content that were counted so far.
 #[derive(Debug, Drop)]
 pub(crate) struct Tally {
-    /// All bytes but those of heads.
+    /// The number of bytes, without those of the children's heads.
     pub(crate) plain: u64,
-    /// The elements without element children.
+    /// The number of child elements without element children.
     pub(crate) leaves: u64,
-    /// The elements with them.
+    /// The number of child elements with element children.
     pub(crate) inners: u64,
-    /// The numbers of the names.
+    /// The numbers of the names of the elements counted, and of those inside them.
     pub(crate) members: Row,
 }
 
 impl Tally {
-    /// No parts, beside so many bytes that are none.
+    /// Counts no parts yet. `plain` bytes of the content come before the parts.
     pub(crate) fn new(plain: u64) -> Tally
         ensures { result ≡ tally_of plain [] }
     {
@@ -72,7 +72,7 @@ impl Tally {
         Ok(())
     }
 
-    /// How many bytes the content has that was counted.
+    /// The length in bytes of the counted content.
     pub(crate) fn length(&self) -> Result<u32, MeasureFault>
         requires { IsSmall self.now }
         ensures length { IfOk result (λ long.
@@ -88,7 +88,7 @@ impl Tally {
         Ok(long as u32)
     }
 
-    /// How many bytes it has within a parent of so many members.
+    /// The length in bytes of the counted parts where their parent has `members` members.
     pub(crate) fn length_within(&self, members: u16) -> u64
         requires small { IsSmall self.now }
         requires members { members ≤ 256 }
@@ -98,7 +98,7 @@ impl Tally {
         self.bytes(members, digits, self.width(members, digits))
     }
 
-    /// The least width for what was counted.
+    /// The least width in which the length of the counted parts fits.
     fn width(&self, members: u16, digits: u32) -> u32
         requires small { IsSmall self.now }
         requires members { members ≤ 256 }
@@ -113,7 +113,7 @@ impl Tally {
         w
     }
 
-    /// The bytes of what was counted, with heads of this width.
+    /// The length in bytes of the counted parts, with heads of width `w`.
     fn bytes(&self, members: u16, digits: u32, w: u32) -> u64
         requires small { IsSmall self.now }
         requires members { members ≤ 256 }
@@ -121,14 +121,14 @@ impl Tally {
         requires width { w ≤ 32 }
         ensures { result ≡ laid_size members self.now w }
     {
-        let front = 1 + u64::from(digits);
-        let leaf = (front + (1 + u64::from(w)) + 7) / 8;
-        let inner = (front + (1 + u64::from(members) + u64::from(w)) + 7) / 8;
+        let prefix = 1 + u64::from(digits);
+        let leaf = (prefix + (1 + u64::from(w)) + 7) / 8;
+        let inner = (prefix + (1 + u64::from(members) + u64::from(w)) + 7) / 8;
         self.plain + (self.leaves * leaf + self.inners * inner)
     }
 }
 
-/// The sum, where it isn't above the limit.
+/// Returns the sum, or `TooLarge` where it is above the limit.
 pub(crate) fn within_limit(bytes: u64, more: u64) -> Result<u64, MeasureFault>
     requires { bytes ≤ 33554432 }
     ensures sum { IfOk result (λ sum. sum ≡ bytes + more) }

@@ -1,4 +1,4 @@
-//! Documents whose streams are worked out by hand, and where a document has none. Memory is ample.
+//! Documents whose streams are worked out by hand, and documents that have no stream. Memory is ample.
 
 use super::*;
 use acl_model::{Bytes, Doc, Element, Item, Name, Sequence, is_document};
@@ -55,13 +55,13 @@ fn of_text(alloc: Global, bytes: &[u8]) -> Result<Doc, AllocError> {
     )
 }
 
-/// The stream of what has to be a document.
+/// The stream of a document, which must be valid.
 fn stream(rt: &impl Abort, alloc: Global, doc: &Doc) -> Plain {
     assert!(rt; is_document(doc));
     plain_stream(alloc, doc).expect(rt, "a stream")
 }
 
-/// Whether a stream begins with these sections.
+/// Fails unless the stream begins with these sections.
 fn expect_sections(rt: &impl Abort, plain: &Plain, dictionary: &[u8], tree: &[u8]) {
     match plain.bytes.as_slice().strip_prefix(dictionary) {
         Some(rest) => assert!(rt; rest.starts_with(tree)),
@@ -118,7 +118,7 @@ fn attributes_stand_before_items(rt: HostRuntime) -> Result<(), Fail> {
     Ok(())
 }
 
-// `d` starts first below `c`, and has the higher number.
+// Inside `c`, `d` starts before `b` but has the higher number.
 #[test]
 fn members_are_ranked_by_their_number(rt: HostRuntime) -> Result<(), Fail> {
     let alloc = rt.alloc();
@@ -153,7 +153,7 @@ fn a_content_of_32_bytes_needs_6_bits(rt: HostRuntime) -> Result<(), Fail> {
     Ok(())
 }
 
-// The sections have 12 bytes beside the text, so 244 of it fill a fragment.
+// The sections have 12 bytes without the text, so a text of 244 bytes fills a fragment.
 #[test]
 fn a_whole_fragment_is_not_filled(rt: HostRuntime) -> Result<(), Fail> {
     let alloc = rt.alloc();
@@ -164,7 +164,7 @@ fn a_whole_fragment_is_not_filled(rt: HostRuntime) -> Result<(), Fail> {
     Ok(())
 }
 
-/// A root `a` with so many children of other names.
+/// A root `a` with `children` children, each of another name.
 fn named(alloc: Global, children: u16) -> Result<Doc, AllocError> {
     let mut items = Vec::new(alloc);
     for n in 0..children {
@@ -189,7 +189,7 @@ fn at_most_256_names(rt: HostRuntime) -> Result<(), Fail> {
     Ok(())
 }
 
-/// A root `a` with so many empty texts.
+/// A root `a` with `texts` empty texts.
 fn of_empty_texts(alloc: Global, texts: u32) -> Result<Doc, AllocError> {
     let mut items = Vec::with_capacity(alloc, texts as usize)?;
     for _ in 0..texts {
@@ -198,7 +198,7 @@ fn of_empty_texts(alloc: Global, texts: u32) -> Result<Doc, AllocError> {
     document(alloc, b"a", Vec::new(alloc), items)
 }
 
-// Each text takes four bytes, the head four, the number of attributes two, and the dictionary four.
+// Each text takes four bytes, the root's head four, the number of attributes two, and the dictionary section four.
 #[test]
 fn at_most_33554432_bytes(rt: HostRuntime) -> Result<(), Fail> {
     let alloc = rt.alloc();

@@ -1,4 +1,4 @@
-//! The second pass: each byte is written once, by the measures of the first.
+//! The second pass: writes each byte of the tree section once, from the measures that the first pass made.
 
 ghost use Rattle.std.specs.Prelude.{◌≡◌, ◌<◌, ◌≤◌, ◌^◌, ◌++◌, ◌+◌, true, OnOk, length, drop, map};
 ghost use Rattle.std.specs.Int.{w16, to_be_bytes};
@@ -6,8 +6,8 @@ ghost use Rattle.std.specs.List.{concat};
 ghost use Rattle.acl_model.specs.Names.{is_name};
 ghost use Rattle.acl_model.specs.Document.{is_well_formed, item_well_formed};
 ghost use Rattle.acl_model.specs.Stream.{measured_bytes, bytes_of_segments, part_segments, element_part, branch_of, part_of};
-ghost use Rattle.skip_encode.specs.Measures.{part_measures, BeginsWith, Fits, PartFits};
-ghost use Rattle.skip_encode.specs.Tallies.{front_size};
+ghost use Rattle.skip_encode.specs.inside.Measures.{part_measures, BeginsWith, Fits, PartFits};
+ghost use Rattle.skip_encode.specs.inside.Tallies.{prefix_size};
 
 use crate::heads::{Parent, binary_length, write_head};
 use crate::measures::Measures;
@@ -15,7 +15,8 @@ use acl_model::{Bytes, Element, Item};
 use std::alloc::AllocError;
 use tag_dictionary::Dictionary;
 
-/// Writes an element and all inside it. `names` are those by which it was measured; the contract alone reads them.
+/// Writes an element and everything inside it. `names` is the dictionary with which it was measured. Only the contract
+/// uses it.
 #[cycle(tree)]
 pub(crate) fn write_element(
     bytes: &mut Vec<u8>,
@@ -73,10 +74,10 @@ fn write_item(
     }
 }
 
-/// Writes the number of attributes, and each of them.
+/// Writes the number of attributes in two bytes, and each attribute after its length in four.
 fn write_attributes(bytes: &mut Vec<u8>, attributes: &[Bytes]) -> Result<(), AllocError>
     requires few { length attributes.now ≤ 65535 }
-    requires small { front_size attributes.now ≤ 33554432 }
+    requires small { prefix_size attributes.now ≤ 33554432 }
     ensures { OnOk result (bytes.new.items ≡ bytes.old.items
         ++ (to_be_bytes w16 (length attributes.now) ++ concat (map measured_bytes attributes.now))) }
 {

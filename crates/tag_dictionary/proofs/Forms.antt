@@ -1,4 +1,4 @@
--- What a document's form says of its names, and how the names of an element and of its items join.
+-- A well-formed element has well-formed names, and how the names of an element and of its items are added.
 use Rattle.std.proofs.Common.{◌≡◌, ℕ, zero, ◌+◌, ◌<◌, ◌≤◌, true, nat_le, ◌&&◌, List, [], ◌∷◌, length, map, drop, get_or, drop-cons, add-one, suc, ap, sym, ◌∙◌, arith}
 use Rattle.std.specs.Cmp.{first_so, second_so}
 use Rattle.std.specs.List.{list_all, flat_map}
@@ -10,7 +10,7 @@ use Rattle.acl_model.specs.declared.document.Item.{Item}
 use Rattle.acl_model.proofs.FormEquations.{well_formed_is, height_is}
 use Rattle.acl_model.proofs.DictionaryLaws.{start_names_is, with_names-append, with_names-longer}
 
--- an element of the right form has a name of the right form
+-- a well-formed element has a well-formed name
 pub is_name-element : (e : Element) → is_well_formed is_name e ≡ true → is_name e.name ≡ true
 is_name-element e good =
     let own = is_name e.name in
@@ -19,24 +19,24 @@ is_name-element e good =
     let items = list_all (λ b. b) (map (item_well_formed is_name) e.items) in
     first_so own few (first_so (own && few) raw (first_so (own && few && raw) items (sym (well_formed_is is_name e) ∙ good)))
 
--- and items of the right form
+-- and well-formed items
 pub well_formed-items : (e : Element) → is_well_formed is_name e ≡ true → list_all (λ b. b) (map (item_well_formed is_name) e.items) ≡ true
 well_formed-items e good =
     second_so (is_name e.name && nat_le (length e.attributes) 65535 && list_all is_raw_attribute e.attributes) (list_all (λ b. b) (map (item_well_formed is_name) e.items)) (sym (well_formed_is is_name e) ∙ good)
 
--- the names of an element join: its own, and then those of its items
+-- the names of an element are added: its own, and then those of its items
 pub with_names-element : (names : List (List ℕ)) (e : Element) → with_names names (start_names e) ≡ with_names (with_name names e.name) (flat_map (λ starts. starts) (map item_start_names e.items))
 with_names-element names e = ap (with_names names) (start_names_is e)
 
--- where too many have joined already, too many join
+-- where the names added so far are too many, the names in all are too many
 pub many-more : (names more : List (List ℕ)) → 256 < length names → 256 < length (with_names names more)
 many-more names more many = let longer = with_names-longer names more in omega arith
 
--- what is left of a list begins with the next of it
+-- the rest of a list begins with its next item
 pub drop-next : {X : Type 0} (xs : List X) (i : ℕ) (x : X) → i < length xs → x ≡ get_or xs i x → drop i xs ≡ x ∷ drop (i + 1) xs
 drop-next xs i x within is = rw (add-one i) (drop-cons xs i x within ∙ ap (λ y. y ∷ drop (suc i) xs) (sym is))
 
--- the names of the next item join, and those of the items behind it are left
+-- the names of the next item are added, and those of the items after it remain
 pub with_names-next : (names : List (List ℕ)) (items : List Item) (i : ℕ) (item : Item) → i < length items → item ≡ get_or items i item
     → with_names names (flat_map (λ starts. starts) (map item_start_names (drop i items)))
     ≡ with_names (with_names names (item_start_names item)) (flat_map (λ starts. starts) (map item_start_names (drop (i + 1) items)))
@@ -44,17 +44,17 @@ with_names-next names items i item within is =
     ap (λ l. with_names names (flat_map (λ starts. starts) (map item_start_names l))) (drop-next items i item within is)
     ∙ with_names-append names (item_start_names item) (flat_map (λ starts. starts) (map item_start_names (drop (i + 1) items)))
 
--- the next item has the right form
+-- the next item is well-formed
 pub well_formed-next : (items : List Item) (i : ℕ) (item : Item) → i < length items → item ≡ get_or items i item
     → list_all (λ b. b) (map (item_well_formed is_name) (drop i items)) ≡ true → item_well_formed is_name item ≡ true
 well_formed-next items i item within is good =
     first_so (item_well_formed is_name item) (list_all (λ b. b) (map (item_well_formed is_name) (drop (i + 1) items)))
     (ap (λ l. list_all (λ b. b) (map (item_well_formed is_name) l)) (sym (drop-next items i item within is)) ∙ good)
 
--- and so have those behind it
-pub well_formed-behind : (items : List Item) (i : ℕ) (item : Item) → i < length items → item ≡ get_or items i item
+-- and so are those after it
+pub well_formed-after : (items : List Item) (i : ℕ) (item : Item) → i < length items → item ≡ get_or items i item
     → list_all (λ b. b) (map (item_well_formed is_name) (drop i items)) ≡ true → list_all (λ b. b) (map (item_well_formed is_name) (drop (i + 1) items)) ≡ true
-well_formed-behind items i item within is good =
+well_formed-after items i item within is good =
     second_so (item_well_formed is_name item) (list_all (λ b. b) (map (item_well_formed is_name) (drop (i + 1) items)))
     (ap (λ l. list_all (λ b. b) (map (item_well_formed is_name) l)) (sym (drop-next items i item within is)) ∙ good)
 

@@ -1,4 +1,4 @@
--- What a map from names to numbers holds once a new name is put in.
+-- The map from names to numbers after a new name is inserted.
 use Rattle.std.proofs.Common.{◌≡◌, ℕ, ◌<◌, Bool, true, false, cond, ltb, None, Some, is_some, Vec, List, [], ◌∷◌, ◌++◌, length, length-append, nat_eq, refl, ap, subst, sym, ◌∙◌, ⊎_elim, arith}
 use Rattle.std.specs.Cmp.Lexicographic.{pointwise, bytes_decides}
 use Rattle.std.specs.List.{position_or_len}
@@ -10,19 +10,19 @@ use Rattle.std.proofs.lemmas.List.Folds.{list_all-append}
 use Rattle.acl_model.specs.Names.{is_name}
 use Rattle.acl_model.specs.Dictionary.{has_name, name_number}
 use Rattle.acl_model.proofs.DictionaryLaws.{position-last, list_any-position, are_new-last}
-use Rattle.tag_dictionary.specs.Index.{number_in, IsIndex}
+use Rattle.tag_dictionary.specs.inside.Index.{number_in, IsIndex}
 
 -- two lists of bytes that compare equal are equal
 same_bytes : (xs ys : List ℕ) → pointwise nat_eq xs ys ≡ true → xs ≡ ys
 same_bytes xs ys same = (bytes_decides xs ys).0 same
 
--- where one entry changes, those that another test finds stay
+-- where one entry changes, an entry that another test finds stays the same
 others_stay : {K X : Type 0} (eq : K → K → Bool) (test : K → Bool) (old new : List (K × X)) → KeepsOthers eq test old new
     → (other : K → Bool) → IsKeyTest eq other → AreApart test other → lookup other new ≡ lookup other old
 unfolding KeepsOthers
 others_stay eq test old new keeps = keeps
 
--- the number of each name, once a key has one
+-- the number of each name, after a key is inserted
 number_in-put : {A H : Type 0} (old new : HashMap (Vec ℕ A) ℕ H) (key : Vec ℕ A) (number : ℕ)
     → UpdatesBy (λ x y. pointwise nat_eq x.items y.items) (λ k. pointwise nat_eq key.items k.items) old new (Some number)
     → (name : List ℕ) → number_in new name ≡ cond (pointwise nat_eq key.items name) (Some number) (number_in old name)
@@ -35,7 +35,7 @@ number_in-put old new key number put name = ⊎_elim
     ∙ sym (cond-false (pointwise nat_eq key.items name) (Some number) (number_in old name) apart))
     (cases_Bool (pointwise nat_eq key.items name))
 
--- a new name has the number of names that stand before it
+-- the number of a new name is how many names come before it
 new_number : (names : List (List ℕ)) (name : List ℕ) → has_name names name ≡ false → name_number (names ++ (name ∷ [])) name ≡ Some (length names)
 new_number names name absent =
     position-last (pointwise nat_eq name) names name
@@ -49,7 +49,7 @@ old_number names name other apart =
     ∙ rw (turned, list_any-position (pointwise nat_eq other) names) (elim (ltb (position_or_len (pointwise nat_eq other) names) (length names)) as
     (λ b. cond b (cond b (Some (position_or_len (pointwise nat_eq other) names)) None) None ≡ cond b (Some (position_or_len (pointwise nat_eq other) names)) None) [ true ↦ refl | false ↦ refl ])
 
--- the number of each name among names with a new one at the end
+-- the number of each name, after a new name is appended
 number-last : (names : List (List ℕ)) (name : List ℕ) → has_name names name ≡ false
     → (other : List ℕ) → cond (pointwise nat_eq name other) (Some (length names)) (name_number names other) ≡ name_number (names ++ (name ∷ [])) other
 number-last names name absent other = ⊎_elim
@@ -57,7 +57,7 @@ number-last names name absent other = ⊎_elim
     (λ apart. cond-false _ _ _ apart ∙ sym (old_number names name other apart))
     (cases_Bool (pointwise nat_eq name other))
 
--- the names with one more are an index of the map with one more
+-- the extended map is an index of the extended names
 pub IsIndex-put : {A H : Type 0} (old new : HashMap (Vec ℕ A) ℕ H) (key : Vec ℕ A) (number : ℕ) (names : List (List ℕ)) (name : List ℕ)
     → IsIndex old names → is_name name ≡ true → has_name names name ≡ false → length names < 256 → key.items ≡ name → number ≡ length names
     → UpdatesBy (λ x y. pointwise nat_eq x.items y.items) (λ k. pointwise nat_eq key.items k.items) old new (Some number)

@@ -1,4 +1,4 @@
--- Reading the names of a dictionary one after the other, and that the bytes of a dictionary are read as its names.
+-- Names are read one after the other, and the section of a dictionary is read as its names.
 use Rattle.std.proofs.Common.{◌≡◌, ℕ, ◌+◌, ◌≤◌, Bool, true, false, cond, not, ◌&&◌, nat_le, Option, None, Some, List, [], ◌∷◌, ◌++◌, length, length-append, take, drop, map, ap, refl, sym, ◌∙◌, subst, add-one, append-nil, append_assoc, get_or, ◌<◌, ◌*◌, ◌^◌, ◌/◌, ◌%◌, ◌-◌, ⊎_elim, length-take-le, length-drop, arith}
 use Rattle.std.specs.Cmp.{first_so, second_so}
 use Rattle.std.specs.List.{list_all, concat}
@@ -10,21 +10,21 @@ use Rattle.std.proofs.lemmas.List.{take-append-drop, take_all}
 use Rattle.acl_model.specs.Names.{is_name, is_spelled_as_name}
 use Rattle.acl_model.specs.Dictionary.{has_name, are_new, is_dictionary, spelled_name, dictionary_section}
 use Rattle.tag_dictionary.proofs.Forms.{drop-next}
-use Rattle.tag_dictionary.specs.Reading.{cut_name, may_join, read_names}
+use Rattle.tag_dictionary.specs.inside.NameReading.{cut_name, may_join, read_names}
 
 -- where no name can be cut, no names are read
 pub read_names-no_name : (names : List (List ℕ)) (bytes : List ℕ) → cut_name bytes ≡ None → (n : ℕ) → read_names (n + 1) names bytes ≡ None
 unfolding read_names
 read_names-no_name names bytes none n = rw (add-one n) (ap (option_and_then (λ p. cond (may_join names p.0) (read_names n (names ++ (p.0 ∷ [])) p.1) None)) none)
 
--- nor where the name may not join
+-- nor where the name may not be added
 pub read_names-no_joining : (names : List (List ℕ)) (bytes name rest : List ℕ) → cut_name bytes ≡ Some (name, rest) → may_join names name ≡ false → (n : ℕ) → read_names (n + 1) names bytes ≡ None
 unfolding read_names
 read_names-no_joining names bytes name rest cut not_one n =
     rw (add-one n) (ap (option_and_then (λ p. cond (may_join names p.0) (read_names n (names ++ (p.0 ∷ [])) p.1) None)) cut
     ∙ ap (λ b. cond b (read_names n (names ++ (name ∷ [])) rest) None) not_one)
 
--- and where it may, the others are read behind it
+-- and where it may, the other names are read after it
 pub read_names-joining : (names : List (List ℕ)) (bytes name rest : List ℕ) → cut_name bytes ≡ Some (name, rest) → may_join names name ≡ true
     → (n : ℕ) → read_names (n + 1) names bytes ≡ read_names n (names ++ (name ∷ [])) rest
 unfolding read_names
@@ -42,7 +42,7 @@ unfolding read_names
 read_names-left names [] some = absurd (omega arith)
 read_names-left names (b ∷ bytes) some = refl
 
--- a name that is spelled is cut again
+-- a spelled name is cut off again
 pub cut_name-spelled : (name rest : List ℕ) → cut_name (spelled_name name ++ rest) ≡ Some (name, rest)
 cut_name-spelled name rest =
     let fits : nat_le (length name) (length (name ++ rest)) ≡ true = grind (arith, nat_tests, length-append) in
@@ -56,7 +56,7 @@ parts-same a b name rest same =
     let pair : ◌≡◌ {A = List ℕ × List ℕ} (a, b) (name, rest) = cc in
     ap (λ p. spelled_name p.0 ++ p.1) pair
 
--- and a name that is cut was spelled
+-- and a name that is cut off was spelled
 pub spelled-cut_name : (bytes name rest : List ℕ) → cut_name bytes ≡ Some (name, rest) → bytes ≡ spelled_name name ++ rest
 spelled-cut_name [] name rest cut = cc
 spelled-cut_name (count ∷ bytes) name rest cut = ⊎_elim
@@ -68,12 +68,12 @@ spelled-cut_name (count ∷ bytes) name rest cut = ⊎_elim
     (λ short. let none : ◌≡◌ {A = Option (List ℕ × List ℕ)} None (Some (name, rest)) = sym (ap (λ b. cond b (Some (take count bytes, drop count bytes)) None) short) ∙ cut in cc)
     (cases_Bool (nat_le count (length bytes)))
 
--- the bytes of names with one more at the end
+-- the bytes of names with one more appended
 pub spelled-last : (names : List (List ℕ)) (name : List ℕ) → concat (map spelled_name (names ++ (name ∷ []))) ≡ concat (map spelled_name names) ++ spelled_name name
 spelled-last [] name = append-nil (spelled_name name)
 spelled-last (first ∷ names) name = ap (λ l. spelled_name first ++ l) (spelled-last names name) ∙ sym (append_assoc (spelled_name first) (concat (map spelled_name names)) (spelled_name name))
 
--- names that are new and of the right form are read from their bytes
+-- new, well-formed names are read from their bytes
 pub read_names-spelled : (before more : List (List ℕ)) → are_new before more ≡ true → list_all is_name more ≡ true
     → read_names (length more) before (concat (map spelled_name more)) ≡ Some (before ++ more)
 unfolding read_names
@@ -90,7 +90,7 @@ read_names-spelled before (name ∷ more) new named =
     ∙ read_names-spelled (before ++ (name ∷ [])) more later forms
     ∙ ap Some (append_assoc before (name ∷ []) more)
 
--- what makes names a dictionary
+-- the conditions under which names are a dictionary
 pub is_dictionary-made : (names : List (List ℕ)) → 1 ≤ length names → length names ≤ 256 → list_all is_name names ≡ true → are_new [] names ≡ true → is_dictionary names ≡ true
 is_dictionary-made names some few named new =
     let least : nat_le 1 (length names) ≡ true = grind (arith, nat_tests) in
@@ -100,7 +100,7 @@ is_dictionary-made names some few named new =
     ∙ ap (λ b. b && are_new [] names) named
     ∙ new
 
--- taking as many as there are takes all
+-- taking as many items as a list has takes all of it
 take-past : (n : ℕ) (bytes : List ℕ) → length bytes ≤ n → take n bytes ≡ bytes
 take-past n bytes all = take_all n bytes all
 
@@ -111,7 +111,7 @@ names_read names good =
     let formed : (few && list_all is_name names) ≡ true = first_so (few && list_all is_name names) (are_new [] names) good in
     read_names-spelled [] names (second_so (few && list_all is_name names) (are_new [] names) good) (second_so few (list_all is_name names) formed)
 
--- and their number fits its two bytes
+-- and the number of names fits two bytes
 names_fit : (names : List (List ℕ)) → is_dictionary names ≡ true → length names ≤ 256
 names_fit names good =
     let few = nat_le 1 (length names) && nat_le (length names) 256 in
@@ -119,7 +119,7 @@ names_fit names good =
     let bounded : nat_le (length names) 256 ≡ true = second_so (nat_le 1 (length names)) (nat_le (length names) 256) (first_so few (list_all is_name names) formed) in
     grind (arith, nat_tests)
 
--- bytes of which no names are read are the section of no dictionary
+-- bytes from which no names are read are the section of no dictionary
 pub no_section : (count : ℕ) (bytes : List ℕ) → count ≡ get_or bytes 0 0 * 2 ^ 8 + get_or bytes 1 0 → read_names count [] (take (length bytes - 2) (drop 2 bytes)) ≡ None
     → (names : List (List ℕ)) → is_dictionary names ≡ true → dictionary_section names ≡ bytes → ⊥
 no_section count bytes counted unread names good same =
@@ -133,7 +133,7 @@ no_section count bytes counted unread names good same =
     let nothing : read_names (length names) [] (concat (map spelled_name names)) ≡ None = ap (λ l. read_names (length names) [] l) (sym rest) ∙ ap (λ n. read_names n [] (drop 2 bytes)) (sym number) ∙ none in
     cc
 
--- the next name fits its byte of length
+-- the length of the next name fits one byte
 pub next_name-fits : (names items : List (List ℕ)) (i : ℕ) (name : List ℕ) → items ≡ names → i < length items → name ≡ get_or items i name
     → list_all is_name (drop i names) ≡ true → length name < 256
 next_name-fits names items i name same within is named =
@@ -142,14 +142,14 @@ next_name-fits names items i name same within is named =
     let short : nat_le (length name) 255 ≡ true = second_so (is_spelled_as_name name) (nat_le (length name) 255) one in
     grind (arith, nat_tests)
 
--- the last step of a count that goes up
+-- the last step of a loop that counts up
 pub read_names-last : (count at : ℕ) (names : List (List ℕ)) (bytes : List ℕ) (all : Option (List (List ℕ))) → at < count → read_names (count - at) names bytes ≡ all
     → ((n : ℕ) → read_names (n + 1) names bytes ≡ None) → all ≡ None
 read_names-last count at names bytes all within reads none =
     let step : count - at ≡ (count - at - 1) + 1 = omega arith in
     sym reads ∙ ap (λ n. read_names n names bytes) step ∙ none (count - at - 1)
 
--- what isn't so is false
+-- a Bool that isn't true is false
 pub is_new : (b : Bool) → not b ≡ true → b ≡ false
 is_new true h = sym h
 is_new false h = refl

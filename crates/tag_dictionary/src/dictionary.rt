@@ -1,4 +1,4 @@
-//! A dictionary: the names in order, and a map from each name to its number. A name joins both at once.
+//! A dictionary: a list of names in order, and a map from each name to its number. A new name is added to both at once.
 
 ghost use Rattle.std.specs.Prelude.{◌≡◌, ◌↔◌, ◌<◌, ◌≤◌, true, false, [], ◌∷◌, ◌++◌, length, Err, IfOk, OnOk, IsNone, MatchOption, None, Some, ℕ, ◌+◌, ◌≢◌, List, map};
 ghost use Rattle.std.specs.List.{slice_get, concat};
@@ -7,7 +7,7 @@ ghost use Rattle.acl_model.specs.Limits.{most_names};
 ghost use Rattle.acl_model.specs.Names.{is_name};
 ghost use Rattle.acl_model.specs.Document.{is_document, is_well_formed, item_well_formed};
 ghost use Rattle.acl_model.specs.Dictionary.{start_names, item_start_names, has_name, name_number, with_name, with_names, dictionary, is_dictionary, spelled_name, dictionary_section};
-ghost use Rattle.tag_dictionary.specs.Reading.{cut_name, may_join, read_names};
+ghost use Rattle.tag_dictionary.specs.inside.NameReading.{cut_name, may_join, read_names};
 
 use crate::fault::{DictFault, TagFault};
 use acl_model::limits::MOST_NAMES;
@@ -17,8 +17,8 @@ use std::alloc::{AllocError, Global};
 use std::collections::HashMap;
 use std::marker::Model;
 
-/// At most 256 names, each with its number. Contracts see the names in order: a name's number is how many stand
-/// before it.
+/// At most 256 names, each with its number. In contracts it is the list of its names in order. A name's number is how
+/// many names come before it.
 #[derive(Debug, Drop)]
 pub struct Dictionary {
     names: Vec<Name>,
@@ -27,7 +27,7 @@ pub struct Dictionary {
 
 impl Model for Dictionary {
     ghost use Rattle.std.specs.Prelude.{List, ℕ};
-    ghost use Rattle.tag_dictionary.specs.Index.{IsIndex};
+    ghost use Rattle.tag_dictionary.specs.inside.Index.{IsIndex};
 
     ghost Value = { List (List ℕ) };
 
@@ -50,7 +50,7 @@ impl Dictionary {
         Ok(dictionary)
     }
 
-    /// No names.
+    /// The dictionary without names.
     pub(crate) fn empty(alloc: Global) -> Dictionary
         ensures { result ≡ [] }
     {
@@ -60,7 +60,7 @@ impl Dictionary {
         }
     }
 
-    /// The number of a name. `None` comes exactly where the dictionary has no such name.
+    /// The number of a name. Returns `None` exactly where the dictionary has no such name.
     pub fn number(&self, name: &[u8]) -> Option<u16>
         ensures number { result ≡ name_number self.now name.now }
         ensures none { IsNone result ↔ (has_name self.now name.now ≡ false) }
@@ -68,7 +68,7 @@ impl Dictionary {
         self.numbers.get(name).copied()
     }
 
-    /// The name of a number. `None` comes exactly where there are no more names than it.
+    /// The name of a number. Returns `None` exactly where the number isn't below the number of names.
     pub fn name(&self, number: u16) -> Option<&[u8]>
         ensures name { option_map (λ name. name.now) result ≡ slice_get self.now number }
         ensures none { IsNone result ↔ (length self.now ≤ number) }
@@ -86,7 +86,7 @@ impl Dictionary {
         self.names.as_slice()
     }
 
-    /// An equal dictionary.
+    /// Returns an equal dictionary.
     pub fn copy(&self, alloc: Global) -> Result<Dictionary, NoMemory>
         ensures { IfOk result (λ d. d ≡ self.now) }
     {
@@ -100,8 +100,8 @@ impl Dictionary {
         Ok(copy)
     }
 
-    /// The dictionary section: the number of names in two bytes, and for each name its length in one byte and its
-    /// bytes.
+    /// The dictionary section: the number of names in two bytes, highest first, and for each name its length in one byte
+    /// and its bytes.
     pub fn bytes(&self, alloc: Global) -> Result<Bytes, NoMemory>
         ensures { IfOk result (λ bytes. bytes ≡ dictionary_section self.now) }
     {
@@ -114,7 +114,7 @@ impl Dictionary {
         Ok(Bytes::from_vec(bytes))
     }
 
-    /// Reads a dictionary section. `BadIndex` comes exactly where the bytes are none.
+    /// Reads a dictionary section. Answers `BadIndex` only where the bytes are the section of no dictionary.
     pub fn read(alloc: Global, bytes: &[u8]) -> Result<Dictionary, DictFault>
         ensures names { IfOk result (λ d. is_dictionary d ≡ true) }
         ensures bytes { IfOk result (λ d. dictionary_section d ≡ bytes.now) }
@@ -131,7 +131,7 @@ impl Dictionary {
         Dictionary::read_names(alloc, count, spelled)
     }
 
-    /// Reads so many names, with nothing behind them.
+    /// Reads exactly `count` names, which must use all of the bytes.
     fn read_names(alloc: Global, count: u16, bytes: &[u8]) -> Result<Dictionary, DictFault>
         requires some { 1 ≤ count }
         requires few { count ≤ most_names }
@@ -151,7 +151,7 @@ impl Dictionary {
         Ok(dictionary)
     }
 
-    /// Reads one more name, and gives what stands behind it.
+    /// Reads one more name, adds it, and returns the bytes that follow it.
     fn read_name<'a>(&mut self, alloc: Global, bytes: &'a [u8]) -> Result<&'a [u8], DictFault>
         requires { length self.old < most_names }
         ensures joined { OnOk result (length self.new ≡ length self.old + 1) }
@@ -172,14 +172,14 @@ impl Dictionary {
         Ok(rest)
     }
 
-    /// Whether the bytes are a name, and none of these.
+    /// Whether the bytes have the form of a name that the dictionary doesn't have yet.
     fn may_join(&self, name: &[u8]) -> bool
         ensures { result ≡ may_join self.now name.now }
     {
         is_a_name(name) && !self.numbers.contains_key(name)
     }
 
-    /// Puts a new name at the end.
+    /// Appends a name that the dictionary doesn't have yet.
     pub(crate) fn push(&mut self, alloc: Global, name: &[u8]) -> Result<(), AllocError>
         requires named { is_name name.now ≡ true }
         requires new { has_name self.old name.now ≡ false }
@@ -199,7 +199,7 @@ impl Dictionary {
         }
     }
 
-    /// Puts a name at the end where it isn't there yet.
+    /// Appends a name unless the dictionary has it already.
     #[tactic(auto, using(acl_model::proofs::DictionaryLaws::joinings))]
     fn add(&mut self, alloc: Global, name: &[u8]) -> Result<(), TagFault>
         requires { is_name name.now ≡ true }
@@ -217,7 +217,7 @@ impl Dictionary {
         Ok(())
     }
 
-    /// Adds the names of an element and of those inside it.
+    /// Adds the names of an element and of all elements inside it.
     #[cycle(tree)]
     #[tactic(auto, using(acl_model::proofs::DictionaryLaws::start_equations, acl_model::proofs::FormEquations::form_equations))]
     fn add_element(&mut self, alloc: Global, element: &Element) -> Result<(), TagFault>
@@ -233,7 +233,7 @@ impl Dictionary {
         Ok(())
     }
 
-    /// Adds the names of an item.
+    /// Adds the names of all elements of an item. A text has none.
     #[cycle(tree)]
     #[tactic(auto, using(acl_model::proofs::DictionaryLaws::start_equations, acl_model::proofs::FormEquations::form_equations))]
     fn add_item(&mut self, alloc: Global, item: &Item) -> Result<(), TagFault>
@@ -249,7 +249,7 @@ impl Dictionary {
     }
 }
 
-/// The name that the bytes begin with, and what stands behind it.
+/// The name that the bytes begin with, and the bytes that follow it.
 fn next_name(bytes: &[u8]) -> Option<(&[u8], &[u8])>
     ensures { MatchOption result
         (cut_name bytes.now ≡ None)

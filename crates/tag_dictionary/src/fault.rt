@@ -1,4 +1,4 @@
-//! Why there is no dictionary. Each answer has one cause.
+//! Errors of making and of reading a dictionary. Each variant has one cause.
 
 ghost use Rattle.std.specs.Prelude.{◌≡◌};
 ghost use Rattle.tag_dictionary.specs.declared.fault.TagFault.TheVariants as tag;
@@ -11,7 +11,7 @@ use std::alloc::{AllocError, AllocFailed};
 pub enum TagFault {
     /// The document has more than 256 names.
     TooManyTags,
-    /// There was no memory for the names.
+    /// There isn't enough memory for the names.
     NoMemory,
 }
 
@@ -31,12 +31,12 @@ impl<T: Drop> From<AllocFailed<T>> for TagFault {
     }
 }
 
-/// Why bytes are not read.
+/// Why bytes can't be read as a dictionary.
 #[derive(Clone, Copy, Debug, PartialEq, Eq)]
 pub enum DictFault {
-    /// The bytes are not of the form that they should have.
+    /// The bytes are the section of no dictionary.
     BadIndex,
-    /// There was no memory for what they hold.
+    /// There isn't enough memory for the names.
     NoMemory,
 }
 

@@ -1,4 +1,4 @@
-//! That the bytes of a dictionary are those of no other. This function does nothing: its contract is the law.
+//! The bytes of a dictionary determine it. The function here does nothing: its contract is the law.
 
 ghost use Rattle.std.specs.Prelude.{◌≡◌, ℕ, List, true};
 ghost use Rattle.acl_model.specs.Dictionary.{is_dictionary, dictionary_section};

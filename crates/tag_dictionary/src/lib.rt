@@ -1,4 +1,4 @@
-//! The names of a document by number, and their numbers by name.
+//! The tag dictionary of a document: numbers of element names, and names of numbers.
 #![tactic(auto)]
 
 mod dictionary;

@@ -1,5 +1,4 @@
-//! Small documents and bytes worked out by hand, and that each public call gives what it is asked for, with ample
-//! memory.
+//! Tests on small documents and on bytes worked out by hand, with enough memory.
 
 ghost use Rattle.std.specs.Prelude.{◌≡◌, [], true, IfOk};
 ghost use Rattle.acl_model.specs.Document.{is_document};
@@ -11,7 +10,7 @@ use sqlite_items::{Boxed, Items};
 use std::alloc::{AllocError, Global};
 use std::test::Fail;
 
-/// A child with nothing inside.
+/// An empty child element.
 fn child(alloc: Global, name: &[u8]) -> Result<Item, AllocError>
     ensures { IfOk result (λ item. item
         ≡ Child (record { name = name.now; attributes = []; items = [] })) }
@@ -43,7 +42,7 @@ fn small(alloc: Global) -> Result<Doc, AllocError>
 }
 
 #[test]
-fn names_stand_in_the_order_of_their_first_start(rt: HostRuntime) -> Result<(), Fail> {
+fn names_are_in_the_order_of_their_first_start(rt: HostRuntime) -> Result<(), Fail> {
     let doc = small(rt.alloc())?;
     let dictionary = Dictionary::of_doc(rt.alloc(), &doc).expect(&rt, "256 names at most");
     let bytes = b"\0\x03\x01a\x01c\x02bb".as_slice();

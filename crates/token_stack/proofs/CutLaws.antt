@@ -1,4 +1,4 @@
--- Levels that stand one behind another in one piece of memory.
+-- Levels that stand one after another in one piece of memory.
 use Rattle.std.proofs.Common.{◌≡◌, ℕ, zero, suc, ◌+◌, ◌-◌, ◌*◌, ◌<◌, ◌≤◌, Bool, true, ◌&&◌, Some, None, List, [], ◌∷◌, ◌++◌, length, length-drop, get_or, take, drop, refl, ap, sym, subst, ◌∙◌, arith, eq-eqb, nat_eq, nat_le, nat_lt}
 use Rattle.std.specs.Cmp.{first_so, second_so}
 use Rattle.std.specs.List.{slice_get, slice_range}
@@ -20,7 +20,7 @@ both a b x y = ap (λ v. v && b) x ∙ y
 
 -- ---- ends
 
--- where the levels begin is not behind where all end
+-- where the levels begin is not after where all end
 pub start-le : (start : ℕ) (ends : List ℕ) (total : ℕ) → are_ends start ends total ≡ true → start ≤ total
 start-le start [] total cut = omega (arith, eqb-true start total cut)
 start-le start (e ∷ ends) total cut =
@@ -79,20 +79,20 @@ take-cut start [] es (suc k) = refl
 take-cut start (e ∷ ends) es zero = refl
 take-cut start (e ∷ ends) es (suc k) = ap (λ levels. slice_range es start e ∷ levels) (take-cut e ends es k)
 
--- a part of a front is a part of the whole
-front_range : (es : List Entry) (a b n : ℕ) → a ≤ b → b ≤ n → slice_range (take n es) a b ≡ slice_range es a b
-front_range es a b n order within =
+-- a part of a prefix is a part of the whole
+prefix_range : (es : List Entry) (a b n : ℕ) → a ≤ b → b ≤ n → slice_range (take n es) a b ≡ slice_range es a b
+prefix_range es a b n order within =
     let split : n ≡ a + (n - a) = omega arith in
     let less : b - a ≤ n - a = omega arith in
     ap (λ m. take (b - a) (drop a (take m es))) split ∙ ap (take (b - a)) (drop-take a (n - a) es) ∙ take-take (b - a) (n - a) (drop a es) less
 
--- the levels of a front that has them all
-pub cut-front : (start : ℕ) (ends : List ℕ) (es : List Entry) (total : ℕ) → are_ends start ends total ≡ true → levels_cut start ends (take total es) ≡ levels_cut start ends es
-cut-front start [] es total cut = refl
-cut-front start (e ∷ ends) es total cut =
+-- the levels of a prefix that has them all
+pub cut-prefix : (start : ℕ) (ends : List ℕ) (es : List Entry) (total : ℕ) → are_ends start ends total ≡ true → levels_cut start ends (take total es) ≡ levels_cut start ends es
+cut-prefix start [] es total cut = refl
+cut-prefix start (e ∷ ends) es total cut =
     let rest : are_ends e ends total ≡ true = second_so (nat_le start e) (are_ends e ends total) cut in
-    ap (λ level. level ∷ levels_cut e ends (take total es)) (front_range es start e total (leb-true start e (first_so (nat_le start e) (are_ends e ends total) cut)) (start-le e ends total rest))
-    ∙ ap (λ levels. slice_range es start e ∷ levels) (cut-front e ends es total rest)
+    ap (λ level. level ∷ levels_cut e ends (take total es)) (prefix_range es start e total (leb-true start e (first_so (nat_le start e) (are_ends e ends total) cut)) (start-le e ends total rest))
+    ∙ ap (λ levels. slice_range es start e ∷ levels) (cut-prefix e ends es total rest)
 
 -- what is added is a level of its own
 snoc_cut : (start : ℕ) (ends : List ℕ) (es : List Entry) (total more : ℕ) → are_ends start ends total ≡ true
@@ -100,8 +100,8 @@ snoc_cut : (start : ℕ) (ends : List ℕ) (es : List Entry) (total more : ℕ) 
 snoc_cut start [] es total more cut = ap (λ s. slice_range es s more ∷ []) (eqb-true start total cut)
 snoc_cut start (e ∷ ends) es total more cut = ap (λ levels. slice_range es start e ∷ levels) (snoc_cut e ends es total more (second_so (nat_le start e) (are_ends e ends total) cut))
 
-behind_range : (es new : List Entry) → slice_range (es ++ new) (length es) (length es + length new) ≡ new
-behind_range es new =
+after_range : (es new : List Entry) → slice_range (es ++ new) (length es) (length es + length new) ≡ new
+after_range es new =
     let exact : length es + length new - length es ≡ length new = omega arith in
     ap (λ n. take n (drop (length es) (es ++ new))) exact ∙ ap (take (length new)) (drop-append_seam es new) ∙ take-length new
 
@@ -110,8 +110,8 @@ pub push-cut : (ends : List ℕ) (es new : List Entry) → are_ends 0 ends (leng
 push-cut ends es new cut =
     snoc_cut 0 ends (es ++ new) (length es) (length es + length new) cut
     ∙ ap (λ levels. levels ++ (slice_range (es ++ new) (length es) (length es + length new) ∷ []))
-    (sym (cut-front 0 ends (es ++ new) (length es) cut) ∙ ap (levels_cut 0 ends) (take-append_seam es new))
-    ∙ ap (λ level. levels_cut 0 ends es ++ (level ∷ [])) (behind_range es new)
+    (sym (cut-prefix 0 ends (es ++ new) (length es) cut) ∙ ap (levels_cut 0 ends) (take-append_seam es new))
+    ∙ ap (λ level. levels_cut 0 ends es ++ (level ∷ [])) (after_range es new)
 
 -- the entries of a level
 pub get-cut : (start : ℕ) (ends : List ℕ) (es : List Entry) (k : ℕ) → k < length ends → slice_get (levels_cut start ends es) k ≡ Some (slice_range es (level_start start ends k) (get_or ends k 0))
@@ -135,9 +135,9 @@ length_range es a b order within =
 pub rising-length : (low top : ℕ) (es : List Entry) → are_states_from low top es ≡ true → low ≤ top → length es + low ≤ top
 rising-length low top [] rising order = omega arith
 rising-length low top (e ∷ es) rising order =
-    let front : (nat_le low e.state && nat_lt e.state top) ≡ true = first_so (nat_le low e.state && nat_lt e.state top) (are_states_from (e.state + 1) top es) rising in
-    let from : low ≤ e.state = leb-true low e.state (first_so (nat_le low e.state) (nat_lt e.state top) front) in
-    let below : e.state < top = ltb-true e.state top (second_so (nat_le low e.state) (nat_lt e.state top) front) in
+    let prefix : (nat_le low e.state && nat_lt e.state top) ≡ true = first_so (nat_le low e.state && nat_lt e.state top) (are_states_from (e.state + 1) top es) rising in
+    let from : low ≤ e.state = leb-true low e.state (first_so (nat_le low e.state) (nat_lt e.state top) prefix) in
+    let below : e.state < top = ltb-true e.state top (second_so (nat_le low e.state) (nat_lt e.state top) prefix) in
     let rest : length es + (e.state + 1) ≤ top = rising-length (e.state + 1) top es (second_so (nat_le low e.state && nat_lt e.state top) (are_states_from (e.state + 1) top es) rising) (omega arith) in
     omega arith
 

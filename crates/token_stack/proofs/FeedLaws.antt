@@ -9,17 +9,17 @@ use Rattle.acl_model.specs.declared.document.Doc.{Doc}
 use Rattle.acl_model.specs.declared.rule.Rule.{Rule}
 use Rattle.acl_walk.specs.Nesting.{tags_after}
 use Rattle.acl_walk.specs.Spelling.{Spells}
-use Rattle.acl_walk.specs.Standing.{StandsAt}
+use Rattle.acl_walk.specs.SpotMoves.{StandsAt}
 use Rattle.acl_walk.specs.declared.event.Event.{Event}
 use Rattle.acl_walk.specs.declared.event.Event.TheVariants.{Begin, Attr, HeadEnd, Text, Finish, End}
 use Rattle.rule_automata.specs.Compile.{automata_of, states_from, have_no_predicates, is_closed}
 use Rattle.rule_automata.specs.declared.state.State.{State}
 use Rattle.token_stack.specs.Entries.{rules_of}
 use Rattle.acl_walk.specs.Open.{OpenPlace, open_at, tags_of, tags_at}
-use Rattle.acl_walk.specs.OpenLaws.{tags_of-open_after}
+use Rattle.acl_walk.specs.inside.OpenLaws.{tags_of-open_after}
 use Rattle.token_stack.specs.Stack.{TokenStack, entries_at, open_elements}
 use Rattle.token_stack.specs.Stand.{levels_after}
-use Rattle.token_stack.specs.Standing.{TokensStandAt, levels_fed, fed}
+use Rattle.token_stack.specs.TokensStand.{TokensStandAt, levels_fed, fed}
 use Rattle.token_stack.proofs.StandLaws.{levels_begin, levels_finish, length-levels, rules_at_place}
 use Rattle.token_stack.proofs.OpenLaws.{Fits, stands_at_place, fits_at, open_at-next}
 
@@ -57,7 +57,7 @@ levels_move states elements (Text piece) closed fits = refl
 levels_move states elements (Finish tag) closed fits = finish_levels states (tags_of elements) tag fits
 levels_move states elements End closed fits = refl
 
--- Tokens that were fed the event at their place stand at the place behind it.
+-- Tokens that were fed the event at their place stand at the place after it.
 pub fed_stand : (names : List (List ℕ)) (o : Option Doc) (list : List Event) (states : List State) (place : ℕ) (event : Event) (next : ℕ) (tokens : TokenStack) → length names ≤ 256
     → Spells names o list → is_closed false states ≡ true → TokensStandAt states list place tokens → StandsAt list place event next
     → TokensStandAt states list next (fed states event tokens)

@@ -2,7 +2,7 @@
 use Rattle.std.proofs.Common.{◌≡◌, ◌≤◌, ◌<◌, ℕ, zero, suc, Bool, true, Some, List, [], ◌∷◌, length, inl, inr, ap, sym, ◌∙◌, arith}
 use Rattle.std.proofs.lemmas.Bool.{cases_lt, true≢false}
 use Rattle.acl_bits.specs.Row.{row_of, is_member}
-use Rattle.acl_bits.specs.RowLaws.{is_member-row_of, is_member-row_of_past}
+use Rattle.acl_bits.specs.inside.RowLaws.{is_member-row_of, is_member-row_of_past}
 use Rattle.acl_model.specs.Dictionary.{are_distinct}
 use Rattle.acl_model.specs.declared.document.Doc.{Doc}
 use Rattle.acl_model.specs.declared.rule.Rule.{Rule}
@@ -12,7 +12,7 @@ use Rattle.acl_walk.specs.declared.event.Event.{Event}
 use Rattle.rule_automata.specs.Compile.{automata_of, have_no_predicates}
 use Rattle.token_stack.specs.Invariant.{does_rule_select, Stands, row_at}
 use Rattle.token_stack.specs.Stack.{TokenStack}
-use Rattle.token_stack.specs.Standing.{TokensStandAt}
+use Rattle.token_stack.specs.TokensStand.{TokensStandAt}
 use Rattle.token_stack.proofs.FeedLaws.{standing_rows}
 
 -- a number in the set of a test passes it

@@ -9,12 +9,12 @@ use Rattle.rule_automata.specs.Compile.{is_closed}
 use Rattle.token_stack.specs.declared.entry.Entry.{Entry}
 use Rattle.token_stack.specs.Entries.{are_states_from, entries_below}
 use Rattle.token_stack.specs.Stack.{are_levels, are_ends, levels_cut, entries_at, innermost, start_of}
-use Rattle.token_stack.specs.Kept.{AreTokens}
+use Rattle.token_stack.specs.inside.Kept.{AreTokens}
 use Rattle.rule_automata.specs.Run.{begun}
 use Rattle.std.specs.Option.{is_some}
 use Rattle.token_stack.specs.Stand.{entries_from}
-use Rattle.token_stack.proofs.CutLaws.{both, level_start, level-le, end-le, last-end, ends-push, ends-take, length-cut, take-cut, cut-front, push-cut, get-cut, get-cut_past, rising-length, cut-bound, levels-push, levels-take, levels-get}
-use Rattle.token_stack.proofs.RiseLaws.{rising-below, lower, in_front}
+use Rattle.token_stack.proofs.CutLaws.{both, level_start, level-le, end-le, last-end, ends-push, ends-take, length-cut, take-cut, cut-prefix, push-cut, get-cut, get-cut_past, rising-length, cut-bound, levels-push, levels-take, levels-get}
+use Rattle.token_stack.proofs.RiseLaws.{rising-below, lower, put_before}
 
 -- ---- numbers
 
@@ -119,7 +119,7 @@ pub finish-cut : (s d : ℕ) (ends : List ℕ) (es : List Entry) (er nr n : ℕ)
     → levels_cut 0 (take n ends) (take (start_of ends n) es) ≡ take n (levels_cut 0 ends es)
 finish-cut s d ends es er nr zero kept inside some = absurd (omega arith)
 finish-cut s d ends es er nr (suc k) kept inside some =
-    cut-front 0 (take (suc k) ends) es (get_or ends k 0) (ends-take 0 ends (length es) k kept.cut (omega arith)) ∙ take-cut 0 ends es (suc k)
+    cut-prefix 0 (take (suc k) ends) es (get_or ends k 0) (ends-take 0 ends (length es) k kept.cut (omega arith)) ∙ take-cut 0 ends es (suc k)
 
 pub kept-finish : (s d : ℕ) (ends : List ℕ) (es : List Entry) (er nr n : ℕ) → AreTokens s d ends es er nr → n < length ends → 0 < n
     → AreTokens s d (take n ends) (take (start_of ends n) es) er nr
@@ -161,7 +161,7 @@ entries_at-past ends es (suc k) past = ap (λ o. unwrap_or o []) (get-cut_past 0
 begun-rising : (is_first : Bool) (states : List State) (n top : ℕ) → n + length states ≡ top → are_states_from n top (entries_from n (begun is_first states)) ≡ true
 begun-rising is_first [] n top all = refl
 begun-rising true (s ∷ states) n top all =
-    in_front n top (record { state = n; waits = true; selects = None }) (entries_from (n + 1) (begun (is_some s.ends) states)) (omega arith) (omega arith) (begun-rising (is_some s.ends) states (n + 1) top (omega arith))
+    put_before n top (record { state = n; waits = true; selects = None }) (entries_from (n + 1) (begun (is_some s.ends) states)) (omega arith) (omega arith) (begun-rising (is_some s.ends) states (n + 1) top (omega arith))
 begun-rising false (s ∷ states) n top all =
     lower (n + 1) n top (entries_from (n + 1) (begun (is_some s.ends) states)) (omega arith) (begun-rising (is_some s.ends) states (n + 1) top (omega arith))
 

@@ -9,7 +9,7 @@ use Rattle.rule_automata.specs.Run.{begun}
 use Rattle.token_stack.specs.Stand.{entries_from}
 use Rattle.token_stack.specs.Entries.{waiting_entry, entry_made, passed_entry, own_entry, next_state, entries_below}
 
--- the entries from place i on, by the one there and those behind it
+-- the entries from place i on, by the one there and those after it
 pub below-drop : (states : List State) (tag : ℕ) (next : Option ℕ) (es : List Entry) (i : ℕ) (e : Entry) → i < length es → e ≡ get_or es i e
     → entries_below states tag next (drop i es)
     ≡ option_to_list (passed_entry next e.state) ++ (option_to_list (own_entry (slice_get states e.state) tag next e) ++ entries_below states tag (next_state (slice_get states e.state) tag e) (drop (i + 1) es))
@@ -64,9 +64,9 @@ turn_room first xs rest all n way room =
     let inner : length (first ++ xs) ≡ length first + length xs = length-append first xs in
     omega arith
 
--- the old ones stay in front
-pub front_kept : (old items more : List Entry) → length old ≤ length items → take (length old) items ≡ old → take (length old) (items ++ more) ≡ old
-front_kept old items more long kept = take-append-le (length old) items more long ∙ kept
+-- the old ones stay in prefix
+pub prefix_kept : (old items more : List Entry) → length old ≤ length items → take (length old) items ≡ old → take (length old) (items ++ more) ≡ old
+prefix_kept old items more long kept = take-append-le (length old) items more long ∙ kept
 
 pub ruleset move_steps = (below-drop, below-drop_all, append_assoc, append-nil, length-append)
 
@@ -76,7 +76,7 @@ made_first : (b : Bool) (e : Entry) (es : List Entry) → cond b (e ∷ es) es �
 made_first true e es = refl
 made_first false e es = refl
 
--- the entries from state i on, by that of state i and those behind it
+-- the entries from state i on, by that of state i and those after it
 pub begun-drop : (is_first : Bool) (states : List State) (i : ℕ) (s : State) → i < length states → s ≡ get_or states i s
     → entries_from i (begun is_first (drop i states)) ≡ option_to_list (entry_made i is_first None) ++ entries_from (i + 1) (begun (is_some s.ends) (drop (i + 1) states))
 begun-drop is_first states i s inside is =

@@ -20,13 +20,13 @@ use Rattle.acl_model.specs.declared.document.Item.TheVariants.{rolls-Text, rolls
 use Rattle.acl_model.specs.declared.document.Item.TheOpen.{Item-F}
 use Rattle.acl_model.specs.declared.document.Item.{out-roll-Item}
 use Rattle.acl_walk.specs.Spelling.{tag_of, SpellsAttributes, no_attribute, an_attribute, SpellsElement, an_element, SpellsItems, no_item, a_text, a_child, Spells, nothing, a_document}
-use Rattle.acl_walk.specs.TagLaws.{tag_of-dummy, tag_of-name}
+use Rattle.acl_walk.specs.inside.TagLaws.{tag_of-dummy, tag_of-name}
 use Rattle.acl_walk.specs.declared.event.Event.{Event}
 use Rattle.acl_walk.specs.declared.event.Event.TheVariants.{Begin, Attr, HeadEnd, Text, Finish, End}
 use Rattle.rule_automata.specs.Meaning.{tag_name, AreTagsOf}
-use Rattle.acl_walk.specs.Open.{OpenPlace, next_place, with_child, open_after, open_behind, open_at, tags_of}
-use Rattle.acl_walk.specs.OpenLaws.{tags_of-with_child}
-use Rattle.token_stack.specs.Standing.{StandsInDocument, StandInDocument}
+use Rattle.acl_walk.specs.Open.{OpenPlace, next_place, with_child, open_after, open_after_events, open_at, tags_of}
+use Rattle.acl_walk.specs.inside.OpenLaws.{tags_of-with_child}
+use Rattle.token_stack.specs.TokensStand.{StandsInDocument, StandInDocument}
 
 -- ---- the tag of a name stands for it
 
@@ -94,7 +94,7 @@ Fits elements (Text piece) = Unit {0}
 Fits elements (Finish tag) = take 1 (tags_of elements) ≡ tag ∷ []
 Fits elements End = Unit {0}
 
--- Before, between and behind these events the open elements stand in the document, and each event
+-- Before, between and after these events the open elements stand in the document, and each event
 -- fits.
 abbrev Along : List (List ℕ) → Doc → List OpenPlace → List Event → Type 0
 Along names d elements [] = StandInDocument names d elements
@@ -178,7 +178,7 @@ along_start names d elements [] along = along
 along_start names d elements (event ∷ list) along = along.0
 
 along_at : (names : List (List ℕ)) (d : Doc) (elements : List OpenPlace) (list : List Event) (place : ℕ) → Along names d elements list
-    → StandInDocument names d (open_behind elements (take place list))
+    → StandInDocument names d (open_after_events elements (take place list))
 along_at names d elements list zero along = along_start names d elements list along
 along_at names d elements [] (suc place) along = along
 along_at names d elements (event ∷ list) (suc place) along = along_at names d (open_after elements event) list place along.2
@@ -211,7 +211,7 @@ first_of [] = End
 first_of (event ∷ events) = event
 
 along_fits : (names : List (List ℕ)) (d : Doc) (elements : List OpenPlace) (list : List Event) (place : ℕ) (event : Event) (rest : List Event) → Along names d elements list
-    → drop place list ≡ event ∷ rest → Fits (open_behind elements (take place list)) event
+    → drop place list ≡ event ∷ rest → Fits (open_after_events elements (take place list)) event
 along_fits names d elements [] place event rest along is = absurd (no_event place event rest is)
 along_fits names d elements (e ∷ list) zero event rest along is = subst (Fits elements) (ap first_of is) along.1
 along_fits names d elements (e ∷ list) (suc place) event rest along is = along_fits names d (open_after elements e) list place event rest along.2 is
@@ -226,7 +226,7 @@ fits_at names o list place event rest few (a_document ns d own spells) is =
 
 -- what is open one event further on
 pub open_at-next : (elements : List OpenPlace) (list : List Event) (place : ℕ) (event : Event) (rest : List Event) → drop place list ≡ event ∷ rest
-    → open_behind elements (take (suc place) list) ≡ open_after (open_behind elements (take place list)) event
+    → open_after_events elements (take (suc place) list) ≡ open_after (open_after_events elements (take place list)) event
 open_at-next elements [] place event rest is = absurd (no_event place event rest is)
 open_at-next elements (e ∷ list) zero event rest is = ap (open_after elements) (ap first_of is)
 open_at-next elements (e ∷ list) (suc place) event rest is = open_at-next (open_after elements e) list place event rest is

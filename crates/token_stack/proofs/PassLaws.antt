@@ -2,14 +2,14 @@
 use Rattle.std.proofs.Common.{◌≡◌, ℕ, ◌≤◌, Some, List, [], ◌∷◌, length, refl, ap, sym, ◌∙◌}
 use Rattle.acl_model.specs.declared.document.Doc.{Doc}
 use Rattle.acl_walk.specs.Open.{OpenPlace, open_at, tags_of, tags_at}
-use Rattle.acl_walk.specs.PassLaws.{is_pass}
+use Rattle.acl_walk.specs.inside.PassLaws.{is_pass}
 use Rattle.acl_walk.specs.Spelling.{Spells}
-use Rattle.acl_walk.specs.Standing.{PassesTo}
+use Rattle.acl_walk.specs.SpotMoves.{PassesTo}
 use Rattle.acl_walk.specs.declared.event.Event.{Event}
 use Rattle.rule_automata.specs.declared.state.State.{State}
 use Rattle.token_stack.specs.Stack.{TokenStack}
 use Rattle.token_stack.specs.Stand.{levels_after}
-use Rattle.token_stack.specs.Standing.{TokensStandAt}
+use Rattle.token_stack.specs.TokensStand.{TokensStandAt}
 
 -- a pass keeps the tags of the open elements, be there one or none
 same_tags_by : (names : List (List ℕ)) (d : Doc) (list : List Event) (old new : ℕ) (elements : List OpenPlace) → length names ≤ 256 → Spells names (Some d) list

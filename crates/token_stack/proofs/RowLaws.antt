@@ -5,7 +5,7 @@ use Rattle.std.proofs.lemmas.Bool.Decides.{nat_tests}
 use Rattle.std.proofs.lemmas.List.{take_more, take_all}
 use Rattle.std.proofs.lemmas.List.Folds.{list_any-append}
 use Rattle.acl_bits.specs.Row.{row_of, is_member}
-use Rattle.acl_bits.specs.RowLaws.{row_of-same, is_member-row_of}
+use Rattle.acl_bits.specs.inside.RowLaws.{row_of-same, is_member-row_of}
 use Rattle.rule_automata.specs.Run.{is_rule}
 use Rattle.token_stack.specs.declared.entry.Entry.{Entry}
 use Rattle.token_stack.specs.Entries.{rules_of}

@@ -4,29 +4,29 @@ use Rattle.std.specs.Bool.{MatchBool}
 use Rattle.std.proofs.lemmas.Bool.{true≢false}
 use Rattle.std.proofs.lemmas.Option.{same_Some}
 use Rattle.acl_bits.specs.Row.{row_of, is_member}
-use Rattle.acl_bits.specs.RowLaws.{row_of-same}
+use Rattle.acl_bits.specs.inside.RowLaws.{row_of-same}
 use Rattle.acl_model.specs.Decide.{sign}
 use Rattle.acl_model.specs.Dictionary.{are_distinct}
 use Rattle.acl_model.specs.Explain.{explanation_of}
-use Rattle.acl_model.specs.Rules.{numbers_of, numbers_of_sign}
+use Rattle.acl_model.specs.RuleNumbers.{numbers_of, numbers_of_sign}
 use Rattle.acl_model.specs.declared.document.Doc.{Doc}
 use Rattle.acl_model.specs.declared.rule.Rule.{Rule}
 use Rattle.acl_model.specs.declared.rule.Sign.{Sign}
 use Rattle.acl_model.specs.declared.rule.Sign.TheVariants.{Grant, Deny}
 use Rattle.acl_walk.specs.Open.{OpenPlace, open_at, places_of}
-use Rattle.acl_walk.specs.OpenLaws.{places_of-prefixes}
+use Rattle.acl_walk.specs.inside.OpenLaws.{places_of-prefixes}
 use Rattle.acl_walk.specs.Spelling.{Spells}
 use Rattle.acl_walk.specs.declared.event.Event.{Event}
 use Rattle.rule_automata.specs.Compile.{automata_of, have_no_predicates}
-use Rattle.sign_stack.specs.Levels.{has_rule_of, sign_of_levels, rule_of_levels}
-use Rattle.sign_stack.specs.Rules.{selecting_row, settled_level, settled_levels, AreOutcomes, AreSettledToDecider, IsSettledToDecider}
+use Rattle.sign_stack.specs.SignLevels.{has_rule_of, sign_of_levels, rule_of_levels}
+use Rattle.sign_stack.specs.RuleRows.{selecting_row, settled_level, settled_levels, AreOutcomes, AreSettledToDecider, IsSettledToDecider}
 use Rattle.sign_stack.specs.declared.level.Level.{Level}
 use Rattle.sign_stack.proofs.OutcomeLaws.{within, sign_holds, settled_is_given, rule_settled}
 use Rattle.sign_stack.proofs.RuleLaws.{sign_is, rule_is}
 use Rattle.token_stack.specs.Invariant.{does_rule_select, Stands, row_at}
 use Rattle.token_stack.specs.SignRows.{level_rows, open_rows, StandInside, IsInOrder, RowsStandInside}
 use Rattle.token_stack.specs.Stack.{TokenStack}
-use Rattle.token_stack.specs.Standing.{TokensStandAt}
+use Rattle.token_stack.specs.TokensStand.{TokensStandAt}
 use Rattle.token_stack.proofs.FeedLaws.{open_elements-standing, standing_rows}
 use Rattle.token_stack.proofs.InvariantLaws.{member_passes, passes_member, selects_within}
 

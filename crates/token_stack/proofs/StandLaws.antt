@@ -6,7 +6,7 @@ use Rattle.std.proofs.Math.Seq.{take-append_seam}
 use Rattle.std.proofs.lemmas.Bool.{true≢false}
 use Rattle.std.proofs.lemmas.Bool.Decides.{nat_tests}
 use Rattle.acl_bits.specs.Row.{row_of}
-use Rattle.acl_bits.specs.RowLaws.{row_of-same}
+use Rattle.acl_bits.specs.inside.RowLaws.{row_of-same}
 use Rattle.acl_model.specs.Chain.{Chain, chain_at, selects}
 use Rattle.acl_model.specs.Dictionary.{are_distinct}
 use Rattle.acl_model.specs.Select.{select}
@@ -18,7 +18,7 @@ use Rattle.acl_model.specs.declared.rule.Rule.{Rule}
 use Rattle.rule_automata.specs.declared.state.State.{State}
 use Rattle.rule_automata.specs.Compile.{is_closed, states_from, have_no_predicates}
 use Rattle.rule_automata.specs.Meaning.{AreTagsOf, selecting_rules}
-use Rattle.acl_model.specs.Rules.{numbers_of}
+use Rattle.acl_model.specs.RuleNumbers.{numbers_of}
 use Rattle.rule_automata.specs.Run.{Standing, waits_below, is_taken, selected_rule, goes_on, begun, moved, run, is_rule}
 use Rattle.rule_automata.proofs.RunLaws.{selected_is, selected_at}
 use Rattle.token_stack.specs.declared.entry.Entry.{Entry}
@@ -102,29 +102,29 @@ goes_is_none : (ends : Option ℕ) (taken : Bool) → goes_on ends taken ≡ tru
 goes_is_none None taken goes = refl
 goes_is_none (Some rule) taken goes = absurd (true≢false (sym goes))
 
--- what the entries behind a state do
-abbrev Behind : List State → ℕ → List Standing → ℕ → State → Type 0
-Behind states tag row n s =
+-- what the entries after a state do
+abbrev After : List State → ℕ → List Standing → ℕ → State → Type 0
+After states tag row n s =
     (b : Bool) → (b ≡ true → is_none s.ends ≡ true) → entries_below states tag (cond b (Some n) None) (entries_from n row) ≡ entries_from n (moved tag b row)
 
 -- a state that has an entry
-active : (states : List State) (tag : ℕ) (s : State) (waits : Bool) (selects : Option ℕ) (row : List Standing) (n : ℕ) (b : Bool) → slice_get states n ≡ Some s → Behind states tag row (n + 1) s
+active : (states : List State) (tag : ℕ) (s : State) (waits : Bool) (selects : Option ℕ) (row : List Standing) (n : ℕ) (b : Bool) → slice_get states n ≡ Some s → After states tag row (n + 1) s
     → entries_below states tag (cond b (Some n) None) (record { state = n; waits = waits; selects = selects } ∷ entries_from (n + 1) row)
     ≡ entries_from n (moved tag b (record { state = s; waits = waits; selects = selects } ∷ row))
-active states tag s waits selects row n b found behind =
+active states tag s waits selects row n b found after =
     let e : Entry = record { state = n; waits = waits; selects = selects } in
     let taken : Bool = is_taken s waits tag in
     let rest : List Entry = entries_from (n + 1) (moved tag (goes_on s.ends taken) row) in
     ap (λ o. option_to_list o ++ (option_to_list (own_entry (slice_get states n) tag (cond b (Some n) None) e) ++ entries_below states tag (next_state (slice_get states n) tag e) (entries_from (n + 1) row))) (passed_none b n)
     ∙ ap (λ o. option_to_list (own_entry o tag (cond b (Some n) None) e) ++ entries_below states tag (next_state o tag e) (entries_from (n + 1) row)) found
-    ∙ ap (λ es. option_to_list (own_entry (Some s) tag (cond b (Some n) None) e) ++ es) (behind (goes_on s.ends taken) (goes_is_none s.ends taken))
+    ∙ ap (λ es. option_to_list (own_entry (Some s) tag (cond b (Some n) None) e) ++ es) (after (goes_on s.ends taken) (goes_is_none s.ends taken))
     ∙ ap (λ v. option_to_list (entry_made n (waits_below s.axis v waits) (selected_rule s taken)) ++ rest) (next_is b n)
     ∙ made_list (waits_below s.axis b waits || is_some (selected_rule s taken)) (record { state = n; waits = waits_below s.axis b waits; selects = selected_rule s taken }) rest
 
 -- a state that has none
-idle : (states : List State) (tag : ℕ) (s : State) (row : List Standing) (n : ℕ) (b : Bool) → Behind states tag row (n + 1) s
+idle : (states : List State) (tag : ℕ) (s : State) (row : List Standing) (n : ℕ) (b : Bool) → After states tag row (n + 1) s
     → entries_below states tag (cond b (Some n) None) (entries_from (n + 1) row) ≡ entries_from n (moved tag b (record { state = s; waits = false; selects = None } ∷ row))
-idle states tag s row n b behind =
+idle states tag s row n b after =
     idle_by b
     ∙ ap (λ v. cond (b || false) (record { state = n; waits = b; selects = None } ∷ entries_from (n + 1) (moved tag v row)) (entries_from (n + 1) (moved tag v row))) (sym (goes_none s.ends))
     ∙ ap (λ v. cond (v || false) (record { state = n; waits = v; selects = None } ∷ entries_from (n + 1) (moved tag (goes_on s.ends false) row)) (entries_from (n + 1) (moved tag (goes_on s.ends false) row))) (sym (waits_before s.axis b))
@@ -133,15 +133,15 @@ idle states tag s row n b behind =
         ≡ cond (b || false) (record { state = n; waits = b; selects = None } ∷ entries_from (n + 1) (moved tag false row)) (entries_from (n + 1) (moved tag false row))
     idle_by true =
         put_first states tag n (entries_from (n + 1) row) (head_apart n (n + 1) row (omega arith))
-        ∙ ap (λ es. waiting_entry n ∷ es) (behind false (λ is. absurd (true≢false (sym is))))
-    idle_by false = behind false (λ is. absurd (true≢false (sym is)))
+        ∙ ap (λ es. waiting_entry n ∷ es) (after false (λ is. absurd (true≢false (sym is))))
+    idle_by false = after false (λ is. absurd (true≢false (sym is)))
 
-one_state : (states : List State) (tag : ℕ) (s : State) (waits : Bool) (selects : Option ℕ) (row : List Standing) (n : ℕ) (b : Bool) → slice_get states n ≡ Some s → Behind states tag row (n + 1) s
+one_state : (states : List State) (tag : ℕ) (s : State) (waits : Bool) (selects : Option ℕ) (row : List Standing) (n : ℕ) (b : Bool) → slice_get states n ≡ Some s → After states tag row (n + 1) s
     → entries_below states tag (cond b (Some n) None) (entries_from n (record { state = s; waits = waits; selects = selects } ∷ row))
     ≡ entries_from n (moved tag b (record { state = s; waits = waits; selects = selects } ∷ row))
-one_state states tag s true selects row n b found behind = active states tag s true selects row n b found behind
-one_state states tag s false (Some rule) row n b found behind = active states tag s false (Some rule) row n b found behind
-one_state states tag s false None row n b found behind = idle states tag s row n b behind
+one_state states tag s true selects row n b found after = active states tag s true selects row n b found after
+one_state states tag s false (Some rule) row n b found after = active states tag s false (Some rule) row n b found after
+one_state states tag s false None row n b found after = idle states tag s row n b after
 
 -- The entries at a child are those of the states there.
 entries_move : (states : List State) (tag : ℕ) (row : List Standing) (n : ℕ) (b is_begun : Bool) → ((k : ℕ) → slice_get states (n + k) ≡ option_map (λ m. m.state) (slice_get row k))
@@ -198,8 +198,8 @@ levels_begin states tags tag closed =
 pub levels_finish : (states : List State) (tags : List ℕ) (tag : ℕ) → take (length (levels_after states (tag ∷ tags)) - 1) (levels_after states (tag ∷ tags)) ≡ levels_after states tags
 levels_finish states tags tag =
     let joined : length (levels_after states (tag ∷ tags)) ≡ length (levels_after states tags) + 1 = length-append (levels_after states tags) (entries_after states (tag ∷ tags) ∷ []) in
-    let front : length (levels_after states (tag ∷ tags)) - 1 ≡ length (levels_after states tags) = omega arith in
-    ap (λ n. take n (levels_after states (tag ∷ tags))) front ∙ take-append_seam (levels_after states tags) (entries_after states (tag ∷ tags) ∷ [])
+    let prefix : length (levels_after states (tag ∷ tags)) - 1 ≡ length (levels_after states tags) = omega arith in
+    ap (λ n. take n (levels_after states (tag ∷ tags))) prefix ∙ take-append_seam (levels_after states tags) (entries_after states (tag ∷ tags) ∷ [])
 
 -- the entries of an open element stand at its level
 level_of : (states : List State) (inner : List ℕ) (tag : ℕ) (up : List ℕ) → slice_get (levels_after states (inner ++ (tag ∷ up))) (suc (length up)) ≡ Some (entries_after states (tag ∷ up))

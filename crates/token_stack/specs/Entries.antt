@@ -1,5 +1,5 @@
--- The entries at an element: its states, each once and in order, and how they move to a child (VLDB
--- 2004: tokens). This project's own.
+-- The entries at an element: its active states, each once and in order, and how they change at a
+-- child (VLDB 2004: tokens). Defined by this project.
 use Rattle.std.specs.Prelude.{ℕ, ◌+◌, Bool, true, false, is_some, nat_eq, nat_le, nat_lt, ◌&&◌, ◌||◌, Option, Some, None, List, [], ◌∷◌, ◌++◌, option_to_list, if◌then◌else◌}
 use Rattle.std.specs.List.{list_any, slice_get}
 use Rattle.std.specs.Option.{option_map, option_map_or}
@@ -14,7 +14,7 @@ are_states_from low top [] = true
 are_states_from low top (e ∷ es) =
     nat_le low e.state && nat_lt e.state top && are_states_from (e.state + 1) top es
 
--- ---- one element further down
+-- ---- from an element to a child
 
 -- a state that waits, and by which no rule selects
 abbrev pub waiting_entry : ℕ → Entry
@@ -24,11 +24,11 @@ waiting_entry state = record { state = state; waits = true; selects = None }
 abbrev pub is_next : Option ℕ → ℕ → Bool
 is_next next state = option_map_or (λ n. nat_eq n state) next false
 
--- the entry of the next state, where that is passed by and is not this one
+-- the entry of the next state, if that waits and isn't this one
 abbrev pub passed_entry : Option ℕ → ℕ → Option Entry
 passed_entry next state = if is_next next state then None else option_map waiting_entry next
 
--- A state has an entry where it waits or a rule selects by it.
+-- the entry of a state, if it waits or a rule selects with it
 abbrev pub entry_made : ℕ → Bool → Option ℕ → Option Entry
 entry_made state waits selects =
     if waits || is_some selects
@@ -43,7 +43,7 @@ own_entry (Some s) tag next e =
     (waits_below s.axis (is_next next e.state) e.waits)
     (selected_rule s (is_taken s e.waits tag))
 
--- the state behind it, where its step is taken there and doesn't end its rule
+-- the state after it, where its step is taken there and doesn't end its rule
 abbrev pub next_state : Option State → ℕ → Entry → Option ℕ
 next_state None tag e = None
 next_state (Some s) tag e =
@@ -60,6 +60,6 @@ entries_below states tag next (e ∷ es) =
 
 -- ---- what entries say
 
--- the rules that select the element, by its entries
+-- the rules that select the element, from its entries
 abbrev pub rules_of : List Entry → List ℕ
 rules_of es = row_of (λ rule. list_any (λ e. is_rule rule e.selects) es)

@@ -1,4 +1,5 @@
--- What rows of rules say of the open elements, however tokens come by them. This project's own.
+-- What sets of rules say about the open elements, however tokens compute them. Defined by this
+-- project.
 use Rattle.std.specs.Prelude.{◌≡◌, ℕ, Bool, true, false, List, ◌∷◌, ◌++◌, length}
 use Rattle.std.specs.List.{slice_get}
 use Rattle.std.specs.Option.{option_map_or}
@@ -15,10 +16,10 @@ abbrev pub does_rule_select : List Rule → Doc → ℕ → List ℕ → Bool
 does_rule_select rules d n place =
     option_map_or (λ r. select d r.path place) (slice_get rules n) false
 
--- Rows of rules for each level, from 1 at the root, stand for open elements, the innermost first:
--- each rule that surely selects an open element, by the row of its level, selects it, and each rule
--- that selects it is one that possibly does. The level of an element is how many are open from it
--- outwards.
+-- Sets of sure and of possible rules for each level, from 1 at the root, are right for these open
+-- elements, the innermost first. Each rule in the sure set of a level selects its element, and each
+-- rule that selects it is in the possible set. The level of an element is how many elements are
+-- open from it outwards.
 pub record Stands (rules : List Rule) (d : Doc) (elements : List OpenPlace)
     (surely possibly : ℕ → List ℕ) : Type 0 where
   pub sure : (inner : List OpenPlace) (element : OpenPlace) (up : List OpenPlace) (n : ℕ)
@@ -30,6 +31,6 @@ pub record Stands (rules : List Rule) (d : Doc) (elements : List OpenPlace)
       → does_rule_select rules d n element.place ≡ true
       → is_member (possibly (length (element ∷ up))) n ≡ true
 
--- the rules that tokens hold at a level
+-- the rules that tokens have at a level
 abbrev pub row_at : TokenStack → ℕ → List ℕ
 row_at tokens level = rules_of (entries_at tokens.levels level)

@@ -1,7 +1,7 @@
 pub mod Entries
 pub mod Stack
 pub mod Stand
-pub mod Kept
-pub mod Standing
+pub mod TokensStand
 pub mod Invariant
 pub mod SignRows
+pub mod inside

@@ -1,11 +1,12 @@
--- What tokens are: the entries of each level, the virtual root's first. This project's own.
+-- The model of tokens: the entries of each level, the virtual root's first. Defined by this
+-- project.
 use Rattle.std.specs.Prelude.{ℕ, zero, suc, ◌+◌, ◌-◌, Bool, nat_eq, nat_le, ◌&&◌, List, [], ◌∷◌, length, unwrap_or, slice_index}
 use Rattle.std.specs.List.{list_all, slice_get, slice_range}
 use Rattle.token_stack.specs.declared.entry.Entry.{Entry}
 use Rattle.token_stack.specs.Entries.{are_states_from}
 
--- How many states the tables have, how many elements may be open, and the entries at the virtual
--- root, at the document's root, and so on to the innermost open element.
+-- The number of states of the tables, the number of elements that may be open, and the entries at
+-- the virtual root, at the document's root, and so on to the innermost open element.
 pub record TokenStack : Type 0 where
   pub states : ℕ
   pub depth : ℕ
@@ -29,7 +30,7 @@ abbrev pub entry_count : List (List Entry) → ℕ
 entry_count [] = 0
 entry_count (es ∷ levels) = length es + entry_count levels
 
--- No two entries of a level have one state, and each state is one of the tables.
+-- No two entries of a level have the same state, and each state is one of the tables'.
 abbrev pub are_levels : ℕ → List (List Entry) → Bool
 are_levels states levels = list_all (are_states_from 0 states) levels
 
@@ -40,7 +41,7 @@ abbrev pub levels_cut : ℕ → List ℕ → List Entry → List (List Entry)
 levels_cut start [] es = []
 levels_cut start (end ∷ ends) es = slice_range es start end ∷ levels_cut end ends es
 
--- Each level ends behind its start, and the last where the entries do.
+-- Each level ends after its start, and the last where the entries do.
 abbrev pub are_ends : ℕ → List ℕ → ℕ → Bool
 are_ends start [] total = nat_eq start total
 are_ends start (end ∷ ends) total = nat_le start end && are_ends end ends total

@@ -6,8 +6,8 @@ use Rattle.token_stack.specs.declared.entry.Entry.{Entry}
 use Rattle.token_stack.specs.Entries.{rules_of}
 use Rattle.token_stack.specs.Stack.{entries_at}
 
--- The entries of states of which the first has this number: of each that waits, or by which a rule
--- selects.
+-- The entries of states, where the first state has this number: one for each state that waits or
+-- with which a rule selects.
 abbrev pub entries_from : ℕ → List Standing → List Entry
 entries_from n [] = []
 entries_from n (m ∷ row) =
@@ -15,8 +15,8 @@ entries_from n (m ∷ row) =
     then record { state = n; waits = m.waits; selects = m.selects } ∷ entries_from (n + 1) row
     else entries_from (n + 1) row
 
--- the entries at an element, by its tag, its parent's tag, and so on to the root's; those at the
--- virtual root by no tag
+-- the entries at an element, from its tag, its parent's tag, and so on to the root's; with no tag,
+-- those at the virtual root
 abbrev pub entries_after : List State → List ℕ → List Entry
 entries_after states tags = entries_from 0 (run states tags)
 

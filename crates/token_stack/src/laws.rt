@@ -1,10 +1,12 @@
-//! That tokens stand for the tags of the open elements, and so for the events of a walk. The
-//! functions do nothing: their contracts are the laws.
+//! Laws: tokens follow the tags of the open elements, and so the events of a walk. Tokens *stand
+//! at* an index of a list where their levels are those after the events before it. These functions
+//! do nothing: their contracts are the laws.
 
 ghost use Rattle.std.specs.Prelude.{◌≡◌, ◌≤◌, ◌-◌, [], ◌∷◌, ◌++◌, ℕ, List, Option, Some, None, length, take, true, false};
 ghost use Rattle.std.specs.List.{slice_get};
 ghost use Rattle.std.specs.Option.{option_map_or};
 ghost use Rattle.acl_bits.specs.Row.{row_of};
+ghost use Rattle.acl_model.specs.Limits.{most_names};
 ghost use Rattle.acl_model.specs.Chain.{Chain, chain_at};
 ghost use Rattle.acl_model.specs.Dictionary.{are_distinct};
 ghost use Rattle.acl_model.specs.Select.{select};
@@ -13,7 +15,7 @@ ghost use Rattle.acl_model.specs.declared.document.Element.{Element};
 ghost use Rattle.acl_model.specs.declared.rule.Rule.{Rule};
 ghost use Rattle.acl_walk.specs.Nesting.{tags_after};
 ghost use Rattle.acl_walk.specs.Spelling.{Spells};
-ghost use Rattle.acl_walk.specs.Standing.{StandsAt, PassesTo};
+ghost use Rattle.acl_walk.specs.SpotMoves.{StandsAt, PassesTo};
 ghost use Rattle.acl_walk.specs.declared.event.Event.{Event};
 ghost use Rattle.rule_automata.specs.Compile.{automata_of, have_no_predicates, is_closed};
 ghost use Rattle.rule_automata.specs.Meaning.{AreTagsOf, selecting_rules};
@@ -24,10 +26,10 @@ ghost use Rattle.token_stack.specs.Invariant.{Stands, row_at};
 ghost use Rattle.acl_walk.specs.Open.{OpenPlace, open_at, tags_at};
 ghost use Rattle.token_stack.specs.Stack.{TokenStack, entries_at, innermost, open_elements};
 ghost use Rattle.token_stack.specs.Stand.{entries_from, levels_after, row_after};
-ghost use Rattle.token_stack.specs.Standing.{StandsInDocument, TokensStandAt, fed};
+ghost use Rattle.token_stack.specs.TokensStand.{StandsInDocument, TokensStandAt, fed};
 
-/// New tokens have the levels after no tag; opening and closing an element keeps the levels those
-/// after the tags of the open elements, the innermost first.
+/// New tokens have the levels after no tag. After `begin` and `finish` the levels are those after
+/// the tags of the open elements, the innermost first.
 pub fn levels_follow_tags()
     ensures new { (states : List State)
         → entries_from 0 (begun true states) ∷ [] ≡ levels_after states [] }
@@ -40,28 +42,27 @@ pub fn levels_follow_tags()
         ≡ levels_after states tags }
 {}
 
-/// At each level of tokens that have the levels after the tags of the open elements stand exactly
-/// the rules whose paths select the open element there: by the element with its ancestors, and by
-/// its place in a document. `inner` are the tags of the open elements inside it.
+/// Where the levels of tokens are those after the tags of the open elements, each level has exactly
+/// the rules whose paths select its element. `inner` are the tags of the open elements inside it.
 pub fn rows_have_the_rules_that_select()
     ensures chain { (names : List (List ℕ)) (rules : List Rule) (inner : List ℕ) (tag : ℕ)
         (tags : List ℕ) (e : Element) (up : Chain) → are_distinct names ≡ true
-        → length names ≤ 256 → have_no_predicates rules ≡ true
+        → length names ≤ most_names → have_no_predicates rules ≡ true
         → AreTagsOf names (tag ∷ tags) (e ∷ up)
         → row_after (automata_of names rules).states (inner ++ (tag ∷ tags)) (length (tag ∷ tags))
         ≡ selecting_rules rules (e ∷ up) }
     ensures place { (names : List (List ℕ)) (rules : List Rule) (inner : List ℕ) (tag : ℕ)
         (tags : List ℕ) (d : Doc) (place : List ℕ) (e : Element) (up : Chain)
-        → are_distinct names ≡ true → length names ≤ 256 → have_no_predicates rules ≡ true
+        → are_distinct names ≡ true → length names ≤ most_names → have_no_predicates rules ≡ true
         → AreTagsOf names (tag ∷ tags) (e ∷ up) → chain_at d.root [] place ≡ Some (e ∷ up)
         → row_after (automata_of names rules).states (inner ++ (tag ∷ tags)) (length (tag ∷ tags))
         ≡ row_of (λ n. option_map_or (λ r. select d r.path place) (slice_get rules n) false) }
 {}
 
-/// New tokens stand before the first event of each list. Where tokens stand at a place of a list
-/// that spells a document, or nothing, the call that takes the event there makes them stand at the
-/// place behind it: `begin`, `attr`, `head_end`, `text` or `finish`, and none at the end. A pass over
-/// the rest of the innermost open element, in a list that spells a document, leaves them standing.
+/// New tokens stand before the first event of each list. Where tokens stand at an index of a list
+/// that spells a document, or none, the call that takes the event there makes them stand at the
+/// next index. The calls are `begin`, `attr`, `head_end`, `text` and `finish`; End needs none.
+/// After a pass of the innermost open element they stand at the new index without a call.
 pub fn tokens_follow_events()
     ensures new { (states : List State) (list : List Event) (depth : ℕ)
         → TokensStandAt states list 0 (record {
@@ -71,11 +72,11 @@ pub fn tokens_follow_events()
         }) }
     ensures event { (names : List (List ℕ)) (shown : Option Doc) (list : List Event)
         (states : List State) (place : ℕ) (event : Event) (next : ℕ) (tokens : TokenStack)
-        → length names ≤ 256 → Spells names shown list → is_closed false states ≡ true
+        → length names ≤ most_names → Spells names shown list → is_closed false states ≡ true
         → TokensStandAt states list place tokens → StandsAt list place event next
         → TokensStandAt states list next (fed states event tokens) }
     ensures pass { (names : List (List ℕ)) (d : Doc) (list : List Event) (states : List State)
-        (old new : ℕ) (tokens : TokenStack) → length names ≤ 256 → Spells names (Some d) list
+        (old new : ℕ) (tokens : TokenStack) → length names ≤ most_names → Spells names (Some d) list
         → TokensStandAt states list old tokens → PassesTo (tags_at list old) list old new
         → TokensStandAt states list new tokens }
     ensures tags { (list : List Event) (place : ℕ) (event : Event) (next : ℕ)
@@ -83,27 +84,27 @@ pub fn tokens_follow_events()
         → tags_at list next ≡ tags_after (tags_at list place) event }
 {}
 
-/// Each element that is open at a place of a list stands in the document that the list spells, at
-/// the place that is counted from the events, and the tags of the open elements are those of its
-/// name and its ancestors'.
+/// Each element that is open at an index of a list is in the document that the list spells, at the
+/// place that is counted from the events. The tags of the open elements are those of its name and
+/// of its ancestors' names.
 pub fn open_elements_stand_in_the_document()
     ensures { (names : List (List ℕ)) (d : Doc) (list : List Event) (place : ℕ)
         (inner : List OpenPlace) (element : OpenPlace) (up : List OpenPlace)
-        → length names ≤ 256 → Spells names (Some d) list
+        → length names ≤ most_names → Spells names (Some d) list
         → open_at list place ≡ inner ++ (element ∷ up)
         → StandsInDocument names d element up }
 {}
 
-/// Where tokens stand at a place of a list that spells a document, they have a level for each
-/// element that is open there, and the row of that level has exactly the rules whose paths select
-/// the element's place in the document. `inner` are the open elements inside it.
+/// Where tokens stand at an index of a list that spells a document, they have a level for each
+/// element that is open there. The set of that level has exactly the rules whose paths select the
+/// element's place in the document. `inner` are the open elements inside it.
 pub fn standing_tokens_have_the_rules_that_select()
     ensures levels { (states : List State) (list : List Event) (place : ℕ) (tokens : TokenStack)
         → TokensStandAt states list place tokens
         → open_elements tokens ≡ length (open_at list place) }
     ensures rows { (names : List (List ℕ)) (rules : List Rule) (d : Doc) (list : List Event)
         (place : ℕ) (tokens : TokenStack) (inner : List OpenPlace) (element : OpenPlace)
-        (up : List OpenPlace) → are_distinct names ≡ true → length names ≤ 256
+        (up : List OpenPlace) → are_distinct names ≡ true → length names ≤ most_names
         → have_no_predicates rules ≡ true → Spells names (Some d) list
         → TokensStandAt (automata_of names rules).states list place tokens
         → open_at list place ≡ inner ++ (element ∷ up)
@@ -112,12 +113,12 @@ pub fn standing_tokens_have_the_rules_that_select()
         (slice_get rules n) false) }
 {}
 
-/// Tokens that stand at a place of a list that spells a document keep what is promised of them: at
-/// each open level the rules of their row select the element there, and each rule that selects it
-/// is in the row.
+/// Tokens that stand at an index of a list that spells a document are sure and complete: at each
+/// open level the rules of their set select the element there, and each rule that selects it is in
+/// the set.
 pub fn standing_tokens_are_sure_and_complete()
     ensures { (names : List (List ℕ)) (rules : List Rule) (d : Doc) (list : List Event)
-        (place : ℕ) (tokens : TokenStack) → are_distinct names ≡ true → length names ≤ 256
+        (place : ℕ) (tokens : TokenStack) → are_distinct names ≡ true → length names ≤ most_names
         → length rules ≤ 256 → have_no_predicates rules ≡ true → Spells names (Some d) list
         → TokensStandAt (automata_of names rules).states list place tokens
         → Stands rules d (open_at list place) (row_at tokens) (row_at tokens) }

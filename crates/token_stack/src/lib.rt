@@ -1,4 +1,5 @@
-//! Tokens: which states of the tables wait at each open element, and which rules select it.
+//! Tokens: the active states of the rules' tables at each open element, and the rules that select
+//! it.
 #![tactic(auto)]
 
 mod entry;

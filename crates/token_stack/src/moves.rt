@@ -1,5 +1,5 @@
-//! How the entries at an element move to a child: each state looks at the tag once, and hands on to
-//! the state behind it.
+//! Computes the entries at a child from those at its parent. Each state tests the tag once, and a
+//! step that is taken makes the next state wait.
 
 ghost use Rattle.std.specs.Prelude.{◌≡◌, ◌≤◌, ◌+◌, ◌++◌, None, true, drop, length, option_to_list, option_map, vec_capacity};
 ghost use Rattle.std.specs.List.{slice_get};
@@ -11,7 +11,7 @@ use crate::entry::Entry;
 use acl_model::Axis;
 use rule_automata::State;
 
-/// A state that waits, and by which no rule selects.
+/// The entry of a state that waits and with which no rule selects.
 pub fn waiting(state: u16) -> Entry
     ensures { result ≡ waiting_entry state }
 {
@@ -39,7 +39,7 @@ pub fn push_moved(entries: &mut Vec<Entry>, from: usize, states: &[State], tag: 
         let entry = entries[i];
         put(entries, passed(next, entry.state));
         put(entries, own(states, tag, next, entry));
-        next = behind(states, tag, entry);
+        next = after(states, tag, entry);
     }
     put(entries, last(next));
 }
@@ -60,7 +60,7 @@ pub fn push_begun(entries: &mut Vec<Entry>, states: &[State])
     }
 }
 
-/// Adds an entry, if there is one.
+/// Appends the entry, if there is one.
 fn put(entries: &mut Vec<Entry>, entry: Option<Entry>)
     requires { length entries.old.items + length (option_to_list entry) ≤ vec_capacity entries.old }
     ensures entries { entries.new.items ≡ entries.old.items ++ option_to_list entry }
@@ -72,7 +72,7 @@ fn put(entries: &mut Vec<Entry>, entry: Option<Entry>)
     }
 }
 
-/// The state is the next.
+/// Whether the state is the next one.
 fn is_it(next: Option<u16>, state: u16) -> bool
     ensures { result ≡ is_next next state }
 {
@@ -92,14 +92,14 @@ fn last(next: Option<u16>) -> Option<Entry>
     }
 }
 
-/// The entry of the next state, where it is passed by.
+/// The entry of the next state, if that is the one whose step before was just taken.
 fn passed(next: Option<u16>, state: u16) -> Option<Entry>
     ensures { result ≡ passed_entry next state }
 {
     if is_it(next, state) { None } else { last(next) }
 }
 
-/// The entry of a state that waits, or by which a rule selects.
+/// The entry of a state, if it waits or a rule selects with it.
 fn made(state: u16, waits: bool, selects: Option<u8>) -> Option<Entry>
     ensures { result ≡ entry_made state waits selects }
 {
@@ -150,7 +150,7 @@ fn state_of(states: &[State], entry: Entry) -> Option<State>
     states.get(entry.state as usize).copied()
 }
 
-/// The rule that selects by a step.
+/// The rule that selects the child with this step.
 fn rule_of(state: State, taken: bool) -> Option<u8>
     ensures { result ≡ selected_rule state taken }
 {
@@ -167,8 +167,8 @@ fn does_go_on(state: State, taken: bool) -> bool
     }
 }
 
-/// The state behind it, where its step is taken at a child and doesn't end its rule.
-fn behind(states: &[State], tag: u16, entry: Entry) -> Option<u16>
+/// The next state, if the step is taken at a child and doesn't end its rule.
+fn after(states: &[State], tag: u16, entry: Entry) -> Option<u16>
     requires { length states.now ≤ 256 }
     ensures { result ≡ next_state (slice_get states.now entry.state) tag entry }
 {

@@ -1,4 +1,4 @@
-//! The rules that entries speak of, as a row.
+//! The rules that entries name, as a set.
 
 ghost use Rattle.std.specs.Prelude.{◌≡◌, ◌≤◌, length};
 ghost use Rattle.std.specs.List.{slice_range};
@@ -7,7 +7,7 @@ ghost use Rattle.token_stack.specs.Entries.{rules_of};
 use crate::entry::Entry;
 use acl_bits::Row;
 
-/// The rules that select an element, by its entries, which stand among others.
+/// The rules that select an element, from its entries, which are stored among others.
 pub fn rules_between(entries: &[Entry], from: usize, to: usize) -> Row
     requires order { from ≤ to }
     requires within { to ≤ length entries.now }
@@ -16,7 +16,7 @@ pub fn rules_between(entries: &[Entry], from: usize, to: usize) -> Row
     rules_in(&entries[from..to])
 }
 
-/// The rules that select an element, by its entries.
+/// The rules that select an element, from its entries.
 #[tactic(auto, using(crate::proofs::RowLaws::row_steps))]
 fn rules_in(entries: &[Entry]) -> Row
     ensures { result ≡ rules_of entries.now }

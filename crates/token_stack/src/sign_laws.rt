@@ -1,10 +1,10 @@
-//! That rows which stand for the open elements give the sign of the innermost one. These functions do
-//! nothing: their contracts are the laws.
+//! Laws: the sets of rules of the open elements give the sign of the innermost one. These functions
+//! do nothing: their contracts are the laws.
 
 ghost use Rattle.std.specs.Prelude.{◌≡◌, ℕ, List, Some, None, Any, length};
 ghost use Rattle.acl_model.specs.Decide.{sign};
 ghost use Rattle.acl_model.specs.Explain.{explanation_of};
-ghost use Rattle.acl_model.specs.Rules.{numbers_of_sign};
+ghost use Rattle.acl_model.specs.RuleNumbers.{numbers_of_sign};
 ghost use Rattle.acl_model.specs.declared.document.Doc.{Doc};
 ghost use Rattle.acl_model.specs.declared.rule.Rule.{Rule};
 ghost use Rattle.acl_model.specs.declared.rule.Sign.{Sign};
@@ -12,15 +12,14 @@ ghost use Rattle.acl_model.specs.declared.rule.Sign.TheVariants.{Grant, Deny};
 ghost use Rattle.acl_walk.specs.Open.{OpenPlace, open_at};
 ghost use Rattle.acl_walk.specs.declared.event.Event.{Event};
 ghost use Rattle.rule_automata.specs.Compile.{automata_of};
-ghost use Rattle.sign_stack.specs.Levels.{rule_of_levels, sign_of_levels};
-ghost use Rattle.sign_stack.specs.Rules.{settled_levels, IsSettledToDecider, IsUnsettled};
+ghost use Rattle.sign_stack.specs.SignLevels.{rule_of_levels, sign_of_levels};
+ghost use Rattle.sign_stack.specs.RuleRows.{settled_levels, IsSettledToDecider, IsUnsettled};
 ghost use Rattle.token_stack.specs.SignRows.{RowsStandInside, StandInside, level_rows, open_rows};
 ghost use Rattle.token_stack.specs.Stack.{TokenStack};
 
-/// Where tokens of compiled rules stand inside an element of a document, the rows of the open
-/// levels, from the innermost to the root's, are those of the rules that select the element and
-/// its ancestors. So with the rules that grant and those that deny they give the sign of the
-/// element, and the rule that an explanation of it tells.
+/// Where tokens of compiled rules stand inside an element of a document, the sets of the open
+/// levels are those of the rules that select the element and its ancestors. So they give the sign
+/// of the element, and the rule that an explanation names.
 pub fn standing_tokens_give_signs()
     ensures levels { (names : List (List ℕ)) (rules : List Rule) (d : Doc) (list : List Event)
         (place : ℕ) (tokens : TokenStack) (element : OpenPlace)
@@ -38,11 +37,10 @@ pub fn standing_tokens_give_signs()
         (open_rows tokens) ≡ (explanation_of d rules element.place).rule }
 {}
 
-/// Rows that stand for the open elements, apart for what is sure and what is possible, give the
-/// sign of the innermost one before all of them are settled. A sign that they give is the element's.
-/// They give it, and the rule that an explanation of it tells, once they are settled from the
-/// innermost level to the first at which a rule may select, whatever is open around that one. Where
-/// they give none, some level has a rule that may select there and isn't sure to.
+/// Sets of sure and of possible rules of the open elements can give the sign of the innermost one
+/// before all are settled. A sign that they give is the element's. They give it, and the rule that
+/// an explanation names, once the levels from the innermost to the first at which a rule may select
+/// are settled. Where they give none, at some level a rule may select and doesn't surely.
 pub fn standing_rows_give_signs()
     ensures holds { (rules : List Rule) (d : Doc) (list : List Event) (place : ℕ)
         (surely possibly : ℕ → List ℕ) (element : OpenPlace) (s : Sign)

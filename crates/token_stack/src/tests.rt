@@ -1,4 +1,4 @@
-//! Rows worked out by hand, tag by tag.
+//! Sets of rules worked out by hand, tag by tag.
 
 ghost use Rattle.std.specs.Prelude.{◌≡◌, ◌≤◌, ◌+◌, length};
 
@@ -14,7 +14,7 @@ const CHILD: Axis = Axis::Child;
 
 const BELOW: Axis = Axis::Descendant;
 
-/// A rule by its steps, `*` for each name.
+/// A rule with these steps. The name `*` gives the test for each name.
 fn rule(alloc: Global, path: &[(Axis, &str)]) -> Result<Rule, AllocError> {
     let mut steps = Vec::new(alloc);
     for (axis, name) in path {
@@ -132,7 +132,7 @@ fn steps_go_as_far_as_their_axes(rt: HostRuntime) -> Result<(), Fail> {
     Ok(())
 }
 
-// Twenty steps `//a` over 255 `a` in each other.
+// Twenty steps `//a` over 255 elements `a`, each inside the one before.
 #[test]
 fn a_state_has_one_entry_at_a_level(rt: HostRuntime) -> Result<(), Fail> {
     let tables = tables_of(rt.alloc(), &["a"], &[&[(BELOW, "a"); 20]])?;

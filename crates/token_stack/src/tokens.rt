@@ -8,7 +8,7 @@ ghost use Rattle.rule_automata.specs.Run.{begun};
 ghost use Rattle.token_stack.specs.Entries.{entries_below, rules_of};
 ghost use Rattle.token_stack.specs.Stack.{are_levels, entries_at, entry_count, innermost, open_elements, start_of};
 ghost use Rattle.token_stack.specs.Stand.{entries_from};
-ghost use Rattle.token_stack.specs.Standing.{fed};
+ghost use Rattle.token_stack.specs.TokensStand.{fed};
 
 use crate::entry::Entry;
 use crate::moves::{push_begun, push_moved};
@@ -19,14 +19,13 @@ use rule_automata::Tables;
 use std::alloc::Global;
 use std::marker::Model;
 
-/// Which states wait at each open element, and which rules select it. Contracts see the entries of
-/// each level.
+/// The states that wait at each open element, and the rules that select it. Its model is
+/// `TokenStack`, the entries of each level.
 #[derive(Debug, Drop)]
 pub struct Tokens {
     states: u16,
     depth: u16,
-    /// Where each level ends among the entries: the virtual root's, the document's root's, and so
-    /// on.
+    /// Where each level ends among the entries, from the virtual root's and the root's inward.
     ends: Vec<u32>,
     entries: Vec<Entry>,
 }
@@ -34,7 +33,7 @@ pub struct Tokens {
 impl Model for Tokens {
     ghost use Rattle.std.specs.Prelude.{vec_capacity};
     ghost use Rattle.token_stack.specs.Stack.{TokenStack, levels_cut};
-    ghost use Rattle.token_stack.specs.Kept.{AreTokens};
+    ghost use Rattle.token_stack.specs.inside.Kept.{AreTokens};
 
     ghost Value = { TokenStack };
 
@@ -87,7 +86,7 @@ impl Tokens {
         self.ends.push_reserved(self.entries.len() as u32);
     }
 
-    /// Takes a part of an attribute of the innermost open element. Without predicates it tells
+    /// Takes a piece of an attribute of the innermost open element. Without predicates this changes
     /// nothing.
     pub fn attr(&mut self, tables: &Tables, piece: &Piece)
         requires tables { length tables.now.states ≡ self.old.states }
@@ -96,8 +95,8 @@ impl Tokens {
         ensures kept { self.new ≡ self.old }
     {}
 
-    /// Takes the end of the attributes of the innermost open element. Without predicates it tells
-    /// nothing.
+    /// Takes the end of the attributes of the innermost open element. Without predicates this
+    /// changes nothing.
     pub fn head_end(&mut self, tables: &Tables)
         requires tables { length tables.now.states ≡ self.old.states }
         requires open { 0 < open_elements self.old }
@@ -105,7 +104,8 @@ impl Tokens {
         ensures kept { self.new ≡ self.old }
     {}
 
-    /// Takes a part of a text in the innermost open element. Without predicates it tells nothing.
+    /// Takes a piece of a text in the innermost open element. Without predicates this changes
+    /// nothing.
     pub fn text(&mut self, tables: &Tables, piece: &[u8])
         requires tables { length tables.now.states ≡ self.old.states }
         requires open { 0 < open_elements self.old }
@@ -114,16 +114,16 @@ impl Tokens {
         ensures kept { self.new ≡ self.old }
     {}
 
-    /// Settles what closing the innermost open element settles, and leaves it open. Without
-    /// predicates all is settled.
+    /// Settles what is decided when the innermost open element closes, and leaves it open. Without
+    /// predicates all is settled already.
     pub fn settle(&mut self, tables: &Tables)
         requires tables { length tables.now.states ≡ self.old.states }
         requires open { 0 < open_elements self.old }
         ensures { self.new ≡ self.old }
     {}
 
-    /// Takes over what tokens that have moved on have settled of the levels up to this one. Without
-    /// predicates all is settled.
+    /// Copies what other tokens, which are further on, have settled at the levels up to this one.
+    /// Without predicates all is settled already.
     pub fn learn(&mut self, tables: &Tables, ahead: &Tokens, level: u16)
         requires tables { length tables.now.states ≡ self.old.states }
         requires states { ahead.now.states ≡ self.old.states }
@@ -147,8 +147,8 @@ impl Tokens {
         self.ends.truncate(levels);
     }
 
-    /// The rules that surely select at a level: the root's is 1, and so on inward. There are none
-    /// past the innermost.
+    /// The rules that surely select the element of a level. The root's level is 1. Past the
+    /// innermost level the set is empty.
     pub fn sure(&self, level: u16) -> Row
         ensures { result ≡ rules_of (entries_at self.now.levels level) }
     {
@@ -160,8 +160,7 @@ impl Tokens {
         rules_between(&self.entries, from, self.ends[level] as usize)
     }
 
-    /// The rules that possibly select the open element of a level: without predicates those that
-    /// surely do.
+    /// The rules that may select the element of a level: without predicates those that surely do.
     pub fn may(&self, level: u16) -> Row
         ensures { result ≡ rules_of (entries_at self.now.levels level) }
     {

@@ -1,4 +1,4 @@
--- The list of entries, and what is told by it, as equations; and that this is what acl_model explains.
+-- Equations for the list of entries and for the explanations by it. They are the explanations of acl_model.
 use Rattle.std.proofs.Common.{◌≡◌, ℕ, ◌+◌, ◌<◌, ◌≤◌, suc, get_or, drop, drop-cons, arith, Bool, true, false, Option, Some, None, List, [], ◌∷◌, ◌++◌, map, length, length-append, decimal, refl, ap, sym, ◌∙◌, append_assoc, append-nil, add-one, if◌then◌else◌, cond}
 use Rattle.std.proofs.lemmas.List.{map-append, drop-drop, length-map}
 use Rattle.std.proofs.lemmas.List.Folds.{concat-append}
@@ -15,10 +15,10 @@ use Rattle.acl_model.specs.declared.document.Item.{Item}
 use Rattle.acl_model.specs.declared.document.Item.TheVariants.{Text, Child}
 use Rattle.acl_model.specs.declared.rule.Rule.{Rule}
 use Rattle.tree_meaning.specs.declared.decided.Decided.{Decided}
-use Rattle.tree_meaning.specs.Marks.{MarkedStep, begun_rule, row_below}
-use Rattle.tree_meaning.specs.Told.{is_selected_here, told_here, row_at_place, number_after}
-use Rattle.tree_meaning.specs.Decided.{decided_here, entry_here, entries_from, entries_of_child, entries_of_items, entries_of_root, first_entry, explanation_at, told_by_entry, told_by_entries, told_below, entries_after, told_below_child, entries_after_child, told_below_items, entries_after_items}
-use Rattle.tree_meaning.proofs.ViewLaws.{next_number, next-Text, next-Child, child-behind}
+use Rattle.tree_meaning.specs.inside.StepMarks.{MarkedStep, begun_rule, row_below}
+use Rattle.tree_meaning.specs.inside.ExplainWalk.{is_selected_here, told_here, row_at_place, number_after}
+use Rattle.tree_meaning.specs.inside.Decided.{decided_here, entry_here, entries_from, entries_of_child, entries_of_items, entries_of_root, first_entry, explanation_at, told_by_entry, told_by_entries, told_below, entries_after, told_below_child, entries_after_child, told_below_items, entries_after_items}
+use Rattle.tree_meaning.proofs.ViewLaws.{next_number, next-Text, next-Child, child-after}
 use Rattle.tree_meaning.proofs.ToldLaws.{told_numbered, root_and_items}
 
 -- ---- the list
@@ -31,35 +31,35 @@ map-numbers : {A : Type 0} (f : List ℕ → A) (k : ℕ) (ps : List (List ℕ))
 map-numbers f k [] = refl
 map-numbers f k (p ∷ ps) = ap (λ ys. f (k ∷ p) ∷ ys) (map-numbers f k ps)
 
--- by the steps at a child
+-- by the row at a child
 entries_in_child : (row : List MarkedStep) (e c : Element) (k : ℕ) → child e.items k ≡ Some c
     → map (λ place. entry_here (row_at_place row e (k ∷ place))) (places_below c) ≡ entries_from (row_below e row) c
 entries_in_child row e c k found =
     ap (λ (o : Option Element). map (λ place. entry_here (option_map_or (λ x. row_at_place (row_below e row) x place) o [])) (places_below c)) found
     ∙ sym (entries_from-is (row_below e row) c)
 
-entries_numbered : (row : List MarkedStep) (e : Element) (rest front : List Item) → front ++ rest ≡ e.items
-    → map (λ place. entry_here (row_at_place row e place)) (numbered (map places_of_item rest) (next_number front)) ≡ entries_of_items (row_below e row) rest
-entries_numbered row e [] front is = refl
-entries_numbered row e (item ∷ rest) front is =
+entries_numbered : (row : List MarkedStep) (e : Element) (rest prefix : List Item) → prefix ++ rest ≡ e.items
+    → map (λ place. entry_here (row_at_place row e place)) (numbered (map places_of_item rest) (next_number prefix)) ≡ entries_of_items (row_below e row) rest
+entries_numbered row e [] prefix is = refl
+entries_numbered row e (item ∷ rest) prefix is =
     let f : (List ℕ → Option Decided) = λ place. entry_here (row_at_place row e place) in
-    let k : ℕ = next_number front in
-    item_cases (λ x. front ++ x ∷ rest ≡ e.items → map f (numbered (places_of_item x ∷ map places_of_item rest) k) ≡ entries_of_child (row_below e row) (element_of x) ++ entries_of_items (row_below e row) rest)
+    let k : ℕ = next_number prefix in
+    item_cases (λ x. prefix ++ x ∷ rest ≡ e.items → map f (numbered (places_of_item x ∷ map places_of_item rest) k) ≡ entries_of_child (row_below e row) (element_of x) ++ entries_of_items (row_below e row) rest)
     (λ bytes was.
     ap (λ o. map f (numbered (o ∷ map places_of_item rest) k)) (places_of_item-Text bytes)
-    ∙ ap (λ n. map f (numbered (map places_of_item rest) n)) (sym (next-Text front bytes))
-    ∙ entries_numbered row e rest (front ++ Text bytes ∷ []) (append_assoc front (Text bytes ∷ []) rest ∙ was)
+    ∙ ap (λ n. map f (numbered (map places_of_item rest) n)) (sym (next-Text prefix bytes))
+    ∙ entries_numbered row e rest (prefix ++ Text bytes ∷ []) (append_assoc prefix (Text bytes ∷ []) rest ∙ was)
     ∙ ap (λ o. entries_of_child (row_below e row) o ++ entries_of_items (row_below e row) rest) (sym (element_of-Text bytes)))
     (λ c was.
     ap (λ o. map f (numbered (o ∷ map places_of_item rest) k)) (places_of_item-Child c)
     ∙ map-append f (map (λ p. k ∷ p) (places_below c)) (numbered (map places_of_item rest) (k + 1))
-    ∙ ap (λ es. es ++ map f (numbered (map places_of_item rest) (k + 1))) (map-numbers f k (places_below c) ∙ entries_in_child row e c k (child-behind e.items front rest c was))
-    ∙ ap (λ n. entries_from (row_below e row) c ++ map f (numbered (map places_of_item rest) n)) (add-one k ∙ sym (next-Child front c))
-    ∙ ap (λ es. entries_from (row_below e row) c ++ es) (entries_numbered row e rest (front ++ Child c ∷ []) (append_assoc front (Child c ∷ []) rest ∙ was))
+    ∙ ap (λ es. es ++ map f (numbered (map places_of_item rest) (k + 1))) (map-numbers f k (places_below c) ∙ entries_in_child row e c k (child-after e.items prefix rest c was))
+    ∙ ap (λ n. entries_from (row_below e row) c ++ map f (numbered (map places_of_item rest) n)) (add-one k ∙ sym (next-Child prefix c))
+    ∙ ap (λ es. entries_from (row_below e row) c ++ es) (entries_numbered row e rest (prefix ++ Child c ∷ []) (append_assoc prefix (Child c ∷ []) rest ∙ was))
     ∙ ap (λ o. entries_of_child (row_below e row) o ++ entries_of_items (row_below e row) rest) (sym (element_of-Child c)))
     item is
 
--- The entries of an element and of those inside it: its own, and those of its items.
+-- The entries of an element and of those inside it are its own and those of its items.
 pub entries_from_is : (row : List MarkedStep) (e : Element) → entries_from row e ≡ entry_here (row_below e row) ∷ entries_of_items (row_below e row) e.items
 entries_from_is row e =
     entries_from-is row e
@@ -77,7 +77,7 @@ found_in_element row here inner e entry before pushed now carried carried_in own
     ∙ ap (λ steps. before ++ entry_here (row_below e row) ∷ entries_of_items steps e.items) carried_in
     ∙ ap (λ es. before ++ es) (sym (entries_from_is row e))
 
--- ---- what is told by it
+-- ---- the explanations by the list
 
 told_below-is : (entries : List (Option Decided)) (above : List ℕ) (e : Element) → told_below entries above e ≡ told_by_entries entries (map (λ place. above ++ place) (places_below e))
 unfolding told_below
@@ -98,7 +98,7 @@ told-append entries (p ∷ ps) qs =
     ∙ sym (append_assoc (told_by_entry (first_entry entries) p) (told_by_entries (drop 1 entries) ps) (told_by_entries (drop (length ps) (drop 1 entries)) qs))
     ∙ ap (λ es. (told_by_entry (first_entry entries) p ++ told_by_entries (drop 1 entries) ps) ++ told_by_entries es qs) (drop-drop (length ps) 1 entries ∙ ap (λ n. drop n entries) (one_more (length ps)))
 
--- the places in a child, by that of its parent
+-- the places in a child, by the place of its parent
 places_joined : (above : List ℕ) (k : ℕ) (ps : List (List ℕ)) → map (λ p. above ++ p) (map (λ p. k ∷ p) ps) ≡ map (λ p. (above ++ k ∷ []) ++ p) ps
 places_joined above k [] = refl
 places_joined above k (p ∷ ps) =
@@ -127,7 +127,8 @@ told_numbered_by entries above (item ∷ items) k =
     ∙ ap (λ o. told_below_child entries above k o ++ told_below_items (entries_after_child entries o) above items (number_after o k)) (sym (element_of-Child c)))
     item
 
--- What is told of an element and inside it: of itself by the first entry, and of its items by those after it.
+-- The explanations of an element and of those inside it: its own by the first entry, and those of its items by the
+-- entries after it.
 pub told_below_is : (entries : List (Option Decided)) (above : List ℕ) (e : Element) → told_below entries above e ≡ told_by_entry (first_entry entries) above ++ told_below_items (drop 1 entries) above e.items 1
 told_below_is entries above e =
     told_below-is entries above e
@@ -153,7 +154,7 @@ after_numbered entries (item ∷ items) k =
     ∙ ap (λ o. entries_after_items (entries_after_child entries o) items) (sym (element_of-Child c)))
     item
 
--- The entries after an element's are those after its own and its items'.
+-- The entries left after an element are those left after its own entry and those of its items.
 pub entries_after_is : (entries : List (Option Decided)) (e : Element) → entries_after entries e ≡ entries_after_items (drop 1 entries) e.items
 entries_after_is entries e =
     entries_after-is entries e
@@ -162,7 +163,7 @@ entries_after_is entries e =
     ∙ sym (drop-drop (length (numbered (map places_of_item e.items) 1)) 1 entries)
     ∙ after_numbered (drop 1 entries) e.items 1
 
--- ---- what is told is what is explained
+-- ---- they are the explanations of acl_model
 
 decided_told : (here : List MarkedStep) (place : List ℕ) → explanation_at (decided_here here) place ≡ told_here here place
 unfolding decided_here told_here
@@ -181,7 +182,7 @@ told_where_selected row_at (p ∷ ps) =
     by_selection true = ap (λ one. one ∷ map (λ p. told_here (row_at p) ([] ++ p)) (filter (λ p. is_selected_here (row_at p)) ps)) (decided_told (row_at p) ([] ++ p))
     by_selection false = refl
 
--- What is told by the list from the root on is what is explained.
+-- The explanations by the list from the root on are those of acl_model.
 pub told_is_explained : (d : Doc) (rules : List Rule) → told_below (entries_of_root (flat_map begun_rule rules) d.root) [] d.root ≡ explain d rules
 told_is_explained d rules =
     let row : List MarkedStep = flat_map begun_rule rules in
@@ -196,11 +197,11 @@ told_is_explained d rules =
     ∙ told_numbered row [] d.root d.root.items [] refl)
     ∙ root_and_items d rules
 
--- its lines
+-- and so are their lines
 pub lines_are_explained : (d : Doc) (rules : List Rule) → explanation_lines rules (told_below (entries_of_root (flat_map begun_rule rules) d.root) [] d.root) ≡ explain_text d rules
 lines_are_explained d rules = ap (explanation_lines rules) (told_is_explained d rules)
 
--- ---- its text
+-- ---- the text of an explanation
 
 -- the numbers of a child's place
 pub numbers_of_child : (place : List ℕ) (k : ℕ) → concat (map (λ number. slash ∷ decimal number) (place ++ k ∷ [])) ≡ concat (map (λ number. slash ∷ decimal number) place) ++ (slash ∷ decimal k)
@@ -209,7 +210,7 @@ numbers_of_child place k =
     ∙ concat-append (map (λ number. slash ∷ decimal number) place) ((slash ∷ decimal k) ∷ [])
     ∙ ap (λ text. concat (map (λ number. slash ∷ decimal number) place) ++ text) (append-nil (slash ∷ decimal k))
 
--- the text of a child's place is that of its numbers
+-- the text of a child's place is that of the place's numbers
 pub text_of_child : (place : List ℕ) (k : ℕ) → place_text (place ++ k ∷ []) ≡ concat (map (λ number. slash ∷ decimal number) (place ++ k ∷ []))
 text_of_child [] k = refl
 text_of_child (n ∷ place) k = refl
@@ -234,7 +235,7 @@ lines_of_next rules entries above items i k item within is =
     ∙ ap (λ n. explanation_lines rules (told_below_items entries above (item ∷ drop n items) k)) (sym (add-one i))
     ∙ lines-append rules (told_below_child entries above k (element_of item)) (told_below_items (entries_after_child entries (element_of item)) above (drop (i + 1) items) (number_after (element_of item) k))
 
--- the entries after one more item
+-- the entries left after one more item
 pub after_next : (entries : List (Option Decided)) (items : List Item) (i : ℕ) (item : Item) → i < length items → item ≡ get_or items i item
     → entries_after_items entries (drop i items) ≡ entries_after_items (entries_after_child entries (element_of item)) (drop (i + 1) items)
 after_next entries items i item within is =
@@ -242,7 +243,7 @@ after_next entries items i item within is =
     ∙ ap (λ x. entries_after_items entries (x ∷ drop (suc i) items)) (sym is)
     ∙ ap (λ n. entries_after_items entries (item ∷ drop n items)) (sym (add-one i))
 
--- a child's number is at most one more than those before it
+-- A child's number is at most one more than the number of items before it.
 pub number_within : (o : Option Element) (k next i : ℕ) → next ≡ number_after o k → k ≤ i + 1 → next ≤ i + 1 + 1
 number_within None k next i is within = omega (arith, is, within)
 number_within (Some c) k next i is within = omega (arith, is, within)

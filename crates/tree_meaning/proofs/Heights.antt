@@ -1,4 +1,4 @@
--- An item is lower than the element that it stands in: the measure of the walks that a sink or a list goes along with.
+-- An item is lower than its element. That is the termination measure of the walks over a tree.
 use Rattle.std.proofs.Common.{◌≡◌, ℕ, ◌+◌, ◌<◌, ◌≤◌, zero, suc, List, [], ◌∷◌, map, length, get_or, ap, arith}
 use Rattle.acl_model.specs.Document.{greatest, height, height_of_item}
 use Rattle.acl_model.proofs.FormEquations.{height_is}

@@ -1,4 +1,4 @@
--- A walk goes along with the flags of the predicates: at each element and at each item its flags come next.
+-- A walk reads the flags of the predicates in order: at each element and at each item the next flags are its own.
 use Rattle.std.proofs.Common.{◌≡◌, ℕ, ◌+◌, ◌-◌, ◌<◌, ◌≤◌, min, suc, zero, Bool, true, false, ◌&&◌, Option, Some, None, List, [], ◌∷◌, ◌++◌, take, drop, length, get_or, eqb, drop-cons, add-one, refl, ap, sym, subst, ◌∙◌, append-nil, append_assoc, arith}
 use Rattle.std.proofs.Math.Seq.{take-append_seam, drop-append_seam}
 use Rattle.std.proofs.lemmas.List.{drop_all, length-map, drop-drop, length-take, length-drop, get_or-take, get_or-drop, length-append}
@@ -18,16 +18,16 @@ use Rattle.acl_model.specs.declared.path.Pred.{Pred}
 use Rattle.predicate_walk.specs.declared.PredRef.{PredRef}
 use Rattle.predicate_walk.specs.Truths.{truths, truths_at, preds_in}
 use Rattle.tree_meaning.specs.declared.marks.Mark.{Mark}
-use Rattle.tree_meaning.specs.Marks.{MarkedStep, moved, no_step, row_below, wanted_of}
-use Rattle.tree_meaning.specs.Known.{StartsWith, preds_of_step, preds_of, flags_within, flags_of_item, flags_of_items}
+use Rattle.tree_meaning.specs.inside.StepMarks.{MarkedStep, moved, no_step, row_below, wanted_of}
+use Rattle.tree_meaning.specs.inside.Known.{StartsWith, preds_of_step, preds_of, flags_within, flags_of_item, flags_of_items}
 
 -- ---- what a list begins with
 
--- After the first of two lists comes the other.
+-- After the first of two lists the other follows.
 pub passed : (first rest flags : List Bool) → flags ≡ first ++ rest → drop (length first) flags ≡ rest
 passed first rest flags is = ap (drop (length first)) is ∙ drop-append_seam first rest
 
--- A list that is two lists one after another begins with the first.
+-- A list that is two lists joined begins with the first.
 pub starts : (first rest flags : List Bool) → flags ≡ first ++ rest → StartsWith first flags
 starts first rest flags is = is ∙ ap (λ more. first ++ more) (sym (passed first rest flags is))
 
@@ -38,7 +38,7 @@ all_set : (preds : List Pred) (e : Element)
 all_set [] e = refl
 all_set (pred ∷ preds) e = ap (λ b. holds pred e && b) (all_set preds e)
 
--- Its flags are as many as its predicates.
+-- A step has as many flags as predicates.
 taken : (preds : List Pred) (e : Element) (flags : List Bool) → StartsWith (truths_at preds e) flags
     → take (length preds) flags ≡ truths_at preds e
 taken preds e flags begins =
@@ -46,12 +46,12 @@ taken preds e flags begins =
     ∙ ap (take (length (truths_at preds e))) begins
     ∙ take-append_seam (truths_at preds e) (drop (length (truths_at preds e)) flags)
 
--- All of its predicates hold where its flags are set.
+-- All its predicates hold where all its flags are set.
 pub kept : (preds : List Pred) (e : Element) (flags : List Bool) → StartsWith (truths_at preds e) flags
     → list_all (λ flag. flag) (take (length preds) flags) ≡ list_all (λ pred. holds pred e) preds
 kept preds e flags begins = ap (list_all (λ flag. flag)) (taken preds e flags begins) ∙ all_set preds e
 
--- ---- asking flag by flag
+-- ---- reading flag by flag
 
 -- the next of so many flags
 next_flag : (flags self : List Bool) (at count n left : ℕ) → self ≡ drop at flags → n < min count left
@@ -79,7 +79,7 @@ moved-preds : (e : Element) (before : Mark) (row : List MarkedStep) → preds_of
 moved-preds e before [] = refl
 moved-preds e before (m ∷ row) = ap (λ preds. preds_of_step m.step ++ preds) (moved-preds e m.mark row)
 
--- Further down the predicates are the same.
+-- A row further down has the same predicates.
 pub preds_below : (e : Element) (row : List MarkedStep) → preds_of (row_below e row) ≡ preds_of row
 unfolding row_below
 preds_below e row = moved-preds e no_step row
@@ -126,7 +126,7 @@ element_first preds e flags begins =
     starts (truths_at preds e) (flags_of_items preds e.items ++ drop (length (flags_within preds e)) flags) flags
     (element_parts preds e flags begins)
 
--- Where they are passed, those of its items come next, for the steps at the element.
+-- After them those of its items come next, for the row at the element.
 pub items_next : (row here : List MarkedStep) (e : Element) (items : List Item) (flags next : List Bool)
     → here ≡ row_below e row → items ≡ e.items → StartsWith (flags_within (preds_of row) e) flags
     → next ≡ drop (length (truths_at (preds_of row) e)) flags
@@ -163,7 +163,7 @@ item_first preds items i item flags rest inside is way =
     starts (flags_of_item preds item) (flags_of_items preds (drop (i + 1) items) ++ rest) flags
     (item_parts preds items i item flags rest inside is way)
 
--- Where they are passed, those of the items after it come next.
+-- After them those of the items after it come next.
 pub item_passed : (preds : List Pred) (items : List Item) (i : ℕ) (item : Item) (flags next rest : List Bool)
     → i < length items → item ≡ get_or items i item
     → flags ≡ flags_of_items preds (drop i items) ++ rest → next ≡ drop (length (flags_of_item preds item)) flags
@@ -182,9 +182,9 @@ items_end preds items i flags rest past way = way ∙ ap (λ xs. flags_of_items 
 pub whole_starts : (first flags : List Bool) → flags ≡ first → StartsWith first flags
 whole_starts first flags is = starts first [] flags (is ∙ sym (append-nil first))
 
--- ---- passing flags unasked
+-- ---- skipping flags
 
--- Two lists are passed one after the other.
+-- To skip two lists is to skip one after the other.
 dropped : (xs ys flags : List Bool) → drop (length (xs ++ ys)) flags ≡ drop (length ys) (drop (length xs) flags)
 dropped xs ys flags = ap (λ n. drop n flags) (length-append xs ys) ∙ sym (drop-drop (length ys) (length xs) flags)
 
@@ -249,7 +249,7 @@ flags_of_element preds item e is =
     flags_of_item-Child preds c ∙ ap (flags_within preds) (same_Some c e (sym (element_of-Child c) ∙ found)))
     item is
 
--- Where an item is the child that is wanted, the child's flags come next.
+-- Where an item is the child that is looked for, the child's flags come next.
 pub child_starts : (preds : List Pred) (items : List Item) (i : ℕ) (item : Item) (k : ℕ) (e : Element)
     (flags rest : List Bool) → i < length items → item ≡ get_or items i item
     → wanted_of (element_of item) k ≡ Some e → flags ≡ flags_of_items preds (drop i items) ++ rest
@@ -272,7 +272,7 @@ children_start row preds e items flags next same its begins more =
     (element_parts preds e flags begins)
     ∙ ap (λ xs. flags_of_items preds xs ++ rest) (sym its))
 
--- Where those of the items are passed too, all flags of the element are.
+-- After those of its items too, all flags of the element are read.
 pub items_passed : (row here : List MarkedStep) (e : Element) (flags next last : List Bool)
     → here ≡ row_below e row → StartsWith (flags_within (preds_of row) e) flags
     → next ≡ drop (length (truths_at (preds_of row) e)) flags
@@ -286,8 +286,8 @@ items_passed row here e flags next last same begins more end =
 -- the flags of the two kinds of items
 pub ruleset item_flags = (flags_of_item-Text, flags_of_item-Child)
 
--- the steps of a walk that asks the flags
+-- the laws for a walk that reads the flags
 pub ruleset walk_steps = (element_first, items_next, item_first, item_passed, items_end, preds_below)
 
--- the steps of one that passes them unasked
+-- the laws for one that skips them
 pub ruleset pass_steps = (own_dropped, item_dropped, items_dropped, none_dropped)

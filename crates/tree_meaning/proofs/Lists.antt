@@ -1,4 +1,4 @@
--- Laws of lists that the loops of this crate use.
+-- Lemmas on lists, for the loops of this crate.
 use Rattle.std.proofs.Common.{◌≡◌, ℕ, ◌+◌, ◌<◌, Bool, true, false, suc, add-one, ◌≤◌, ◌||◌, List, [], ◌∷◌, ◌++◌, map, drop, length, get_or, refl, ap, sym, ◌∙◌, append-nil, append_assoc, drop-cons}
 use Rattle.std.proofs.lemmas.List.{map-append, drop_all}
 use Rattle.std.specs.List.{list_any, flat_map}

@@ -1,4 +1,4 @@
--- What the walk carries decides each sign as acl_model defines it.
+-- The NFA states that the walk carries decide each sign as acl_model defines it.
 use Rattle.std.proofs.Common.{◌≡◌, ℕ, Bool, true, false, ◌&&◌, ◌||◌, Option, Some, None, List, [], ◌∷◌, ◌++◌, refl, ap, sym, ◌∙◌, if◌then◌else◌}
 use Rattle.std.specs.List.{list_any, flat_map}
 use Rattle.std.specs.Option.{option_map_or}
@@ -17,7 +17,7 @@ use Rattle.acl_model.specs.declared.rule.Rule.{Rule}
 use Rattle.acl_model.specs.declared.rule.Sign.{Sign}
 use Rattle.acl_model.specs.declared.rule.Sign.TheVariants.{Grant, Deny}
 use Rattle.tree_meaning.specs.declared.marks.Mark.{Mark}
-use Rattle.tree_meaning.specs.Marks.{MarkedStep, mark_at_top, begun_steps, begun_rule, leads_from, reaches, mark_below, moved, no_step, row_below, denies_here, sign_here, signs_from, view_from}
+use Rattle.tree_meaning.specs.inside.StepMarks.{MarkedStep, mark_at_top, begun_steps, begun_rule, leads_from, reaches, mark_below, moved, no_step, row_below, denies_here, sign_here, signs_from, view_from}
 
 -- ---- the marks that a chain of ancestors gives
 
@@ -78,9 +78,9 @@ pub row_below_is : (rules : List Rule) (e : Element) (up : Chain) → row_below 
 unfolding row_below
 row_below_is rules e up = row_moves rules e up no_step
 
--- ---- which rules end
+-- ---- which rules select an element
 
--- a rule whose sign passes ends at the step
+-- The step is the last of a rule whose sign passes the test, and the rule selects the element.
 abbrev pub ends_as : (Sign → Bool) → MarkedStep → Bool
 ends_as test m = option_map_or test m.ends false && m.mark.here
 
@@ -105,7 +105,7 @@ sign_at_chain rules e up above is =
     ∙ ap (λ b. if list_any (λ r. selects r.path (e ∷ up)) rules then (if b then Deny else Grant) else above) (row_ends is_deny rules (e ∷ up))
     ∙ ap (λ s. if list_any (λ r. selects r.path (e ∷ up)) rules then (if list_any (λ r. is_deny r.sign && selects r.path (e ∷ up)) rules then Deny else Grant) else s) is
 
--- the sign of an element, from what the walk carries at its parent
+-- the sign of an element, from the row at its parent
 pub sign_below_is : (rules : List Rule) (e : Element) (up : Chain) (row : List MarkedStep) (above : Sign) → row ≡ row_at rules up → above ≡ chain_sign rules up
     → sign_here (row_below e row) above ≡ chain_sign rules (e ∷ up)
 sign_below_is rules e up row above carried is = ap (λ r. sign_here (row_below e r) above) carried ∙ ap (λ r. sign_here r above) (row_below_is rules e up) ∙ sign_at_chain rules e up above is

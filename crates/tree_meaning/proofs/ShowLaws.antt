@@ -1,4 +1,5 @@
--- How the elements of a document stand in its view, by the view itself; and that what is written by it is the view's text.
+-- The list of how elements appear in a view, related to the view itself. What is written by the list is the view's
+-- text.
 use Rattle.std.proofs.Common.{◌≡◌, ℕ, ◌+◌, ◌<◌, ◌≤◌, arith, length-append, suc, Bool, true, false, ◌||◌, Option, Some, None, List, [], ◌∷◌, ◌++◌, map, length, get_or, take, drop, drop-cons, is_some, refl, ap, sym, subst, ◌∙◌, append_assoc, append-nil, add-one, if◌then◌else◌}
 use Rattle.std.proofs.Math.Seq.{take-append_seam, drop-append-add}
 use Rattle.std.proofs.lemmas.List.{drop_all}
@@ -25,8 +26,8 @@ use Rattle.acl_model.specs.declared.rule.Sign.{Sign}
 use Rattle.acl_model.specs.declared.rule.Sign.TheVariants.{Grant, Deny}
 use Rattle.tree_meaning.specs.declared.shows.Show.{Show}
 use Rattle.tree_meaning.specs.declared.shows.Show.TheVariants.{Whole, Dummy, Absent}
-use Rattle.tree_meaning.specs.Marks.{MarkedStep, begun_rule, row_below, sign_here, view_from, item_view, items_view}
-use Rattle.tree_meaning.specs.Shows.{is_shown, show_by_sign, with_show, shows_by_sign, Shows, shows_in_layer, shows_in_element, shows_from, shows_of_item, Written, written_in_layer, in_turn, around, written_by, written_in_element, written_of, written_of_item}
+use Rattle.tree_meaning.specs.inside.StepMarks.{MarkedStep, begun_rule, row_below, sign_here, view_from, item_view, items_view}
+use Rattle.tree_meaning.specs.inside.Shows.{is_shown, show_by_sign, with_show, shows_by_sign, Shows, shows_in_layer, shows_in_element, shows_from, shows_of_item, Written, written_in_layer, in_turn, around, written_by, written_in_element, written_of, written_of_item}
 use Rattle.tree_meaning.proofs.MarkLaws.{view_is}
 use Rattle.tree_meaning.proofs.ViewLaws.{item_view-Text, item_view-Child, view_from_is}
 
@@ -48,7 +49,7 @@ firsts : (f : Item → Shows) (items : List Item) → map {A = Item × Shows} (�
 firsts f [] = refl
 firsts f (item ∷ items) = ap (λ xs. item ∷ xs) (firsts f items)
 
--- what the items of an element tell, one after another
+-- the entries of the items of an element, one after another
 abbrev pub shows_of_items : List MarkedStep → Sign → List Item → List Show
 shows_of_items here own items = flat_map (λ item. shows_of_item item here own) items
 
@@ -116,7 +117,7 @@ shown_by_sign : (own : Sign) (flag filled : Bool) (name : List ℕ) (attributes 
 shown_by_sign Grant flag filled name attributes items same = refl
 shown_by_sign Deny flag filled name attributes items same = ap (λ b. is_shown (show_by_sign Deny b)) (same refl) ∙ denied_shown filled name attributes items
 
--- where an element is denied, something inside it is shown exactly where its view has items
+-- Where an element is denied, something inside it is shown exactly where its view has items.
 inside_shown : (e : Element) (here : List MarkedStep) (own : Sign) → ((c : Element) → Has (children e.items) c → TellsShown c) → own ≡ Deny → list_any is_shown (shows_of_items here own e.items) ≡ is_filled (items_view here own e.items)
 inside_shown e here own each deny = subst (λ s. list_any is_shown (shows_of_items here s e.items) ≡ is_filled (items_view here s e.items)) (sym deny) (items_shown e.items here each)
 
@@ -141,9 +142,9 @@ text_of (Some e) = element_text e
 abbrev IsWritten : Element → Type 0
 IsWritten e = (row : List MarkedStep) (above : Sign) (rest : List Show) → written_of e (shows_from e row above ++ rest) ≡ record { text = text_of (view_from row above e); rest = rest }
 
-turn-step : (item : Bool → List Show → Written) (items : List (Bool → List Show → Written)) (whole : Bool) (shows behind rest : List Show) (first others : List ℕ)
-    → item whole shows ≡ record { text = first; rest = behind } → in_turn items whole behind ≡ record { text = others; rest = rest } → in_turn (item ∷ items) whole shows ≡ record { text = first ++ others; rest = rest }
-turn-step item items whole shows behind rest first others own more =
+turn-step : (item : Bool → List Show → Written) (items : List (Bool → List Show → Written)) (whole : Bool) (shows after rest : List Show) (first others : List ℕ)
+    → item whole shows ≡ record { text = first; rest = after } → in_turn items whole after ≡ record { text = others; rest = rest } → in_turn (item ∷ items) whole shows ≡ record { text = first ++ others; rest = rest }
+turn-step item items whole shows after rest first others own more =
     ap {A = Written} {B = Written} (λ w. record { text = w.text ++ (in_turn items whole w.rest).text; rest = (in_turn items whole w.rest).rest }) own
     ∙ ap {A = Written} {B = Written} (λ w. record { text = first ++ w.text; rest = w.rest }) more
 
@@ -160,19 +161,19 @@ items_written : (items : List Item) (here : List MarkedStep) (own : Sign) (rest 
 items_written [] here own rest each = refl
 items_written (item ∷ items) here own rest each =
     let others : List (Bool → List Show → Written) = map written_of_item items in
-    let behind : List Show = shows_of_items here own items ++ rest in
+    let after : List Show = shows_of_items here own items ++ rest in
     let more : List ℕ = concat (map item_text (items_view here own items)) in
     item_cases (λ x. ((c : Element) → Has (children (x ∷ items)) c → IsWritten c) → in_turn (written_of_item x ∷ others) (is_grant own) ((shows_of_item x here own ++ shows_of_items here own items) ++ rest) ≡ record { text = concat (map item_text (item_view here own x ++ items_view here own items)); rest = rest })
     (λ bytes every.
     ap (λ s. in_turn (written_of_item (Text bytes) ∷ others) (is_grant own) ((s ++ shows_of_items here own items) ++ rest)) (shows_of_item-Text bytes here own)
-    ∙ turn-step (written_of_item (Text bytes)) others (is_grant own) behind behind rest (if is_grant own then line hyphen bytes else []) more
-    (written_of_item-Text bytes (is_grant own) behind) (items_written items here own rest (λ c h. every c (subst (λ es. Has es c) (sym (children-Text bytes items)) h)))
+    ∙ turn-step (written_of_item (Text bytes)) others (is_grant own) after after rest (if is_grant own then line hyphen bytes else []) more
+    (written_of_item-Text bytes (is_grant own) after) (items_written items here own rest (λ c h. every c (subst (λ es. Has es c) (sym (children-Text bytes items)) h)))
     ∙ ap {B = Written} (λ text. record { text = text; rest = rest }) (text-shown own bytes (items_view here own items) ∙ sym (ap (λ v. concat (map item_text (v ++ items_view here own items))) (item_view-Text here own bytes))))
     (λ e every.
     ap (λ s. in_turn (written_of_item (Child e) ∷ others) (is_grant own) ((s ++ shows_of_items here own items) ++ rest)) (shows_of_item-Child e here own)
     ∙ ap (in_turn (written_of_item (Child e) ∷ others) (is_grant own)) (append_assoc (shows_from e here own) (shows_of_items here own items) rest)
-    ∙ turn-step (written_of_item (Child e)) others (is_grant own) (shows_from e here own ++ behind) behind rest (text_of (view_from here own e)) more
-    (written_of_item-Child e (is_grant own) (shows_from e here own ++ behind) ∙ every e (subst (λ es. Has es e) (sym (children-Child e items)) (0, refl)) here own behind)
+    ∙ turn-step (written_of_item (Child e)) others (is_grant own) (shows_from e here own ++ after) after rest (text_of (view_from here own e)) more
+    (written_of_item-Child e (is_grant own) (shows_from e here own ++ after) ∙ every e (subst (λ es. Has es e) (sym (children-Child e items)) (0, refl)) here own after)
     (items_written items here own rest (λ c h. every c (subst (λ es. Has es c) (sym (children-Child e items)) (has_later e c (children items) h))))
     ∙ ap {B = Written} (λ text. record { text = text; rest = rest }) (child-shown (view_from here own e) (items_view here own items) ∙ sym (ap (λ v. concat (map item_text (v ++ items_view here own items))) (item_view-Child here own e))))
     item each
@@ -223,14 +224,14 @@ all_written d rules =
 
 -- ---- the first walk
 
--- an element's own place in the list, behind those before it
-pub settled : (front inside : List Show) (show : Show) (at : ℕ) (shows : List Show) → at ≡ length front → shows ≡ front ++ Absent ∷ inside
-    → take at shows ++ with_show show (drop (at + 1) shows) ≡ front ++ with_show show inside
-settled front inside show at shows place is =
+-- the entry of an element in the list, after those before it
+pub settled : (prefix inside : List Show) (show : Show) (at : ℕ) (shows : List Show) → at ≡ length prefix → shows ≡ prefix ++ Absent ∷ inside
+    → take at shows ++ with_show show (drop (at + 1) shows) ≡ prefix ++ with_show show inside
+settled prefix inside show at shows place is =
     ap (λ s. take at s ++ with_show show (drop (at + 1) s)) is
-    ∙ ap (λ n. take n (front ++ Absent ∷ inside) ++ with_show show (drop (n + 1) (front ++ Absent ∷ inside))) place
-    ∙ ap (λ s. s ++ with_show show (drop (length front + 1) (front ++ Absent ∷ inside))) (take-append_seam front (Absent ∷ inside))
-    ∙ ap (λ s. front ++ with_show show s) (drop-append-add front (Absent ∷ inside) 1)
+    ∙ ap (λ n. take n (prefix ++ Absent ∷ inside) ++ with_show show (drop (n + 1) (prefix ++ Absent ∷ inside))) place
+    ∙ ap (λ s. s ++ with_show show (drop (length prefix + 1) (prefix ++ Absent ∷ inside))) (take-append_seam prefix (Absent ∷ inside))
+    ∙ ap (λ s. prefix ++ with_show show s) (drop-append-add prefix (Absent ∷ inside) 1)
 
 shows_next : (items : List Item) (i : ℕ) (item : Item) (here : List MarkedStep) (own : Sign) → i < length items → item ≡ get_or items i item
     → shows_of_items here own (drop i items) ≡ shows_of_item item here own ++ shows_of_items here own (drop (i + 1) items)
@@ -239,7 +240,7 @@ shows_next items i item here own within is =
     ∙ ap (λ x. shows_of_item x here own ++ shows_of_items here own (drop (suc i) items)) (sym is)
     ∙ ap (λ n. shows_of_item item here own ++ shows_of_items here own (drop n items)) (sym (add-one i))
 
--- one more item is told
+-- the entries of one more item
 pub shows_step : (items : List Item) (i : ℕ) (item : Item) (here : List MarkedStep) (own : Sign) (now next all : List Show) → i < length items → item ≡ get_or items i item
     → next ≡ now ++ shows_of_item item here own → now ++ shows_of_items here own (drop i items) ≡ all → next ++ shows_of_items here own (drop (i + 1) items) ≡ all
 shows_step items i item here own now next all within is more way =
@@ -267,7 +268,7 @@ or_false : (b : Bool) → (b || false) ≡ b
 or_false true = refl
 or_false false = refl
 
--- behind the last item, what is told of the element and those inside it
+-- after the last item, the entries of the element and of those inside it
 pub told_is : (row here : List MarkedStep) (above own : Sign) (e : Element) (items : List Item) (i : ℕ) (flag : Bool) (show : Show)
     → here ≡ row_below e row → own ≡ sign_here here above → items ≡ e.items → length items ≤ i
     → (flag || list_any is_shown (shows_of_items here own (drop i items))) ≡ list_any is_shown (shows_of_items here own items) → show ≡ show_by_sign own flag
@@ -282,38 +283,38 @@ told_is row here above own e items i flag show carried sign_is same past flag_wa
     ∙ sym (shows_from_is e row above)
 
 -- the list before it is settled
-pub shows_before : (here : List MarkedStep) (own : Sign) (items : List Item) (i : ℕ) (front pushed shows : List Show) → length items ≤ i → pushed ≡ front ++ Absent ∷ []
-    → shows ++ shows_of_items here own (drop i items) ≡ pushed ++ shows_of_items here own items → shows ≡ front ++ Absent ∷ shows_of_items here own items
-shows_before here own items i front pushed shows past push way =
+pub shows_before : (here : List MarkedStep) (own : Sign) (items : List Item) (i : ℕ) (prefix pushed shows : List Show) → length items ≤ i → pushed ≡ prefix ++ Absent ∷ []
+    → shows ++ shows_of_items here own (drop i items) ≡ pushed ++ shows_of_items here own items → shows ≡ prefix ++ Absent ∷ shows_of_items here own items
+shows_before here own items i prefix pushed shows past push way =
     sym (append-nil shows)
     ∙ ap (λ xs. shows ++ shows_of_items here own xs) (sym (drop_all i items past))
     ∙ way
     ∙ ap (λ s. s ++ shows_of_items here own items) push
-    ∙ append_assoc front (Absent ∷ []) (shows_of_items here own items)
+    ∙ append_assoc prefix (Absent ∷ []) (shows_of_items here own items)
 
--- it has a place for the element
-pub place_within : (front inside shows : List Show) (at : ℕ) → at ≡ length front → shows ≡ front ++ Absent ∷ inside → at < length shows
-place_within front inside shows at place is =
-    let long : length shows ≡ length front + suc (length inside) = ap length is ∙ length-append front (Absent ∷ inside) in
+-- the list has an entry for the element
+pub place_within : (prefix inside shows : List Show) (at : ℕ) → at ≡ length prefix → shows ≡ prefix ++ Absent ∷ inside → at < length shows
+place_within prefix inside shows at place is =
+    let long : length shows ≡ length prefix + suc (length inside) = ap length is ∙ length-append prefix (Absent ∷ inside) in
     omega (arith, place, long)
 
 -- ---- the second walk
 
-front_is : (first : Show) (shows : List Show) (e : Element) (show : Show) → slice_get (first ∷ shows) 0 ≡ Some show → written_of e (first ∷ shows) ≡ written_by e.attributes e.name (map written_of_item e.items) (show ∷ shows)
-front_is first shows e show is = written_of_is e (first ∷ shows) ∙ ap (λ s. written_by e.attributes e.name (map written_of_item e.items) (s ∷ shows)) (same_Some first show is)
+prefix_is : (first : Show) (shows : List Show) (e : Element) (show : Show) → slice_get (first ∷ shows) 0 ≡ Some show → written_of e (first ∷ shows) ≡ written_by e.attributes e.name (map written_of_item e.items) (show ∷ shows)
+prefix_is first shows e show is = written_of_is e (first ∷ shows) ∙ ap (λ s. written_by e.attributes e.name (map written_of_item e.items) (s ∷ shows)) (same_Some first show is)
 
--- by a front that says whole, dummy or absent; or where the list has ended
+-- by a first entry that is whole, dummy or absent, or where the list has ended
 pub whole_next : (e : Element) (shows : List Show) → slice_get shows 0 ≡ Some Whole → written_of e shows ≡ around true e.attributes e.name (in_turn (map written_of_item e.items) true (drop 1 shows))
 whole_next e [] is = absurd (none_is_not_some Whole is)
-whole_next e (first ∷ shows) is = front_is first shows e Whole is
+whole_next e (first ∷ shows) is = prefix_is first shows e Whole is
 
 pub dummy_next : (e : Element) (shows : List Show) → slice_get shows 0 ≡ Some Dummy → written_of e shows ≡ around false e.attributes e.name (in_turn (map written_of_item e.items) false (drop 1 shows))
 dummy_next e [] is = absurd (none_is_not_some Dummy is)
-dummy_next e (first ∷ shows) is = front_is first shows e Dummy is
+dummy_next e (first ∷ shows) is = prefix_is first shows e Dummy is
 
 pub absent_next : (e : Element) (shows : List Show) → slice_get shows 0 ≡ Some Absent → written_of e shows ≡ record { text = []; rest = drop 1 shows }
 absent_next e [] is = absurd (none_is_not_some Absent is)
-absent_next e (first ∷ shows) is = front_is first shows e Absent is
+absent_next e (first ∷ shows) is = prefix_is first shows e Absent is
 
 pub none_next : (e : Element) (shows : List Show) → slice_get shows 0 ≡ None → written_of e shows ≡ record { text = []; rest = drop 1 shows }
 none_next e [] is = written_of_is e []

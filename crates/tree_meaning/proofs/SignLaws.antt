@@ -13,7 +13,7 @@ use Rattle.acl_model.specs.declared.document.Item.{Item}
 use Rattle.acl_model.specs.declared.rule.Rule.{Rule}
 use Rattle.acl_model.specs.declared.rule.Sign.{Sign}
 use Rattle.acl_model.specs.declared.rule.Sign.TheVariants.{Deny}
-use Rattle.tree_meaning.specs.Marks.{MarkedStep, begun_rule, row_below, sign_here, signs_from, sign_from, wanted_of, number_behind}
+use Rattle.tree_meaning.specs.inside.StepMarks.{MarkedStep, begun_rule, row_below, sign_here, signs_from, sign_from, wanted_of, next_child_number}
 use Rattle.tree_meaning.proofs.MarkLaws.{row_begins, signs_from_is}
 
 none_is_not_some : {A : Type 0} (x : A) → None ≡ Some x → ⊥
@@ -30,7 +30,7 @@ children_of items i item inside is =
     ∙ ap (λ x. cons_option (element_of x) (children (drop (suc i) items))) (sym is)
     ∙ ap (λ n. cons_option (element_of item) (children (drop n items))) (sym (add-one i))
 
--- the element of this number among some
+-- the element of this number among these
 abbrev numbered_among : List Element → ℕ → Option Element
 numbered_among es zero = None
 numbered_among es (suc k) = slice_get es k
@@ -39,8 +39,8 @@ child_is : (items : List Item) (k : ℕ) → child items k ≡ numbered_among (c
 child_is items zero = refl
 child_is items (suc k) = refl
 
--- behind one element, or none, the number that is left finds the same
-left_same : (o : Option Element) (es : List Element) (k : ℕ) → wanted_of o k ≡ None → numbered_among es (number_behind o k) ≡ numbered_among (cons_option o es) k
+-- after an item, the number that is left finds the same element
+left_same : (o : Option Element) (es : List Element) (k : ℕ) → wanted_of o k ≡ None → numbered_among es (next_child_number o k) ≡ numbered_among (cons_option o es) k
 left_same None es k none = refl
 left_same (Some e) es zero none = refl
 left_same (Some e) es (suc zero) none = absurd (none_is_not_some e (sym none))
@@ -52,16 +52,16 @@ found_same (Some x) es zero e found = absurd (none_is_not_some e found)
 found_same (Some x) es (suc zero) e found = sym found
 found_same (Some x) es (suc (suc k)) e found = absurd (none_is_not_some e found)
 
--- An item that isn't wanted is passed.
+-- An item that is not the one looked for is skipped.
 pub child_passed : (items : List Item) (i : ℕ) (item : Item) (k : ℕ) (all : Option Element) → i < length items → item ≡ get_or items i item → wanted_of (element_of item) k ≡ None
-    → child (drop i items) k ≡ all → child (drop (i + 1) items) (number_behind (element_of item) k) ≡ all
+    → child (drop i items) k ≡ all → child (drop (i + 1) items) (next_child_number (element_of item) k) ≡ all
 child_passed items i item k all inside is none way =
-    child_is (drop (i + 1) items) (number_behind (element_of item) k)
+    child_is (drop (i + 1) items) (next_child_number (element_of item) k)
     ∙ left_same (element_of item) (children (drop (i + 1) items)) k none
     ∙ ap (λ es. numbered_among es k) (sym (children_of items i item inside is))
     ∙ sym (child_is (drop i items) k) ∙ way
 
--- One that is wanted is the child.
+-- One that is, is the child.
 pub child_found : (items : List Item) (i : ℕ) (item : Item) (k : ℕ) (e : Element) (all : Option Element) → i < length items → item ≡ get_or items i item → wanted_of (element_of item) k ≡ Some e
     → child (drop i items) k ≡ all → Some e ≡ all
 child_found items i item k e all inside is found way =
@@ -73,7 +73,7 @@ none_numbered : (k : ℕ) → numbered_among [] k ≡ None
 none_numbered zero = refl
 none_numbered (suc k) = refl
 
--- Behind the last item there is none.
+-- After the last item there is none.
 pub child_end : (items : List Item) (i k : ℕ) (all : Option Element) → length items ≤ i → child (drop i items) k ≡ all → None ≡ all
 child_end items i k all past way = sym (none_numbered k) ∙ ap (λ xs. numbered_among (children xs) k) (sym (drop_all i items past)) ∙ sym (child_is (drop i items) k) ∙ way
 
@@ -101,7 +101,7 @@ sign_step row here above own e c (x ∷ place) k carried is some first found =
     ∙ ap (λ r. sign_from r (sign_here r above) c place) carried
     ∙ ap (option_and_then (λ y. sign_from (row_below e row) (sign_here (row_below e row) above) y place)) (found ∙ ap (child e.items) first)
 
--- where there is no child of the number
+-- where no child has the number
 pub sign_missing : (row : List MarkedStep) (above : Sign) (e : Element) (place : List ℕ) (k : ℕ) → 1 ≤ length place → k ≡ get_or place 0 k → None ≡ child e.items k → None ≡ sign_from row above e place
 sign_missing row above e [] k some first none = absurd (omega (arith, some))
 sign_missing row above e (x ∷ place) k some first none =

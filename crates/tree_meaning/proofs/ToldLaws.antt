@@ -1,4 +1,4 @@
--- What the walk down a tree tells is what acl_model explains.
+-- The explanations of the walk down a tree are those of acl_model.
 use Rattle.std.proofs.Common.{◌≡◌, ℕ, ◌+◌, ◌<◌, ◌≤◌, suc, get_or, drop, drop-cons, arith, Bool, true, false, ◌&&◌, ◌||◌, Option, Some, None, List, [], ◌∷◌, ◌++◌, map, length, cond, refl, ap, sym, ◌∙◌, append_assoc, append-nil, add-one, if◌then◌else◌}
 use Rattle.std.proofs.lemmas.Bool.{true≢false}
 use Rattle.std.proofs.lemmas.List.{map-append, drop_all}
@@ -27,10 +27,10 @@ use Rattle.acl_model.specs.declared.rule.Sign.TheVariants.{Grant, Deny}
 use Rattle.tree_meaning.specs.declared.explain.Told.{Told}
 use Rattle.tree_meaning.specs.declared.marks.Mark.{Mark}
 use Rattle.tree_meaning.specs.declared.marks.Progress.{Progress}
-use Rattle.tree_meaning.specs.Marks.{MarkedStep, marked_step, marked_steps, begun_steps, begun_rule, mark_at_top, mark_below, reaches, moved, no_step, row_below, selects_here, denies_here, sign_here}
-use Rattle.tree_meaning.specs.Told.{explanation_in, explanations_in, is_last, rules_in, selects_as, first_here, is_selected_here, told_here, row_at_place, told_from, told_if_selected, told_if_unselected, told_of_child, number_after, told_of_items}
+use Rattle.tree_meaning.specs.inside.StepMarks.{MarkedStep, marked_step, marked_steps, begun_steps, begun_rule, mark_at_top, mark_below, reaches, moved, no_step, row_below, selects_here, denies_here, sign_here}
+use Rattle.tree_meaning.specs.inside.ExplainWalk.{explanation_in, explanations_in, is_last, rules_in, selects_as, first_here, is_selected_here, told_here, row_at_place, told_from, told_if_selected, told_if_unselected, told_of_child, number_after, told_of_items}
 use Rattle.tree_meaning.proofs.MarkLaws.{steps_at, row_at, row_begins, row_below_is, row_ends}
-use Rattle.tree_meaning.proofs.ViewLaws.{next_number, next-Text, next-Child, child-behind}
+use Rattle.tree_meaning.proofs.ViewLaws.{next_number, next-Text, next-Child, child-after}
 
 -- ---- how many rules a row has
 
@@ -50,12 +50,12 @@ moved-rules e before (m ∷ row) =
     ∙ ap (λ n. if is_last m then suc n else n) (moved-rules e m.mark row)
     ∙ sym (rules_with m row)
 
--- Further down the rules are the same.
+-- A row further down has as many rules.
 pub rules_below : (e : Element) (row : List MarkedStep) → rules_in (row_below e row) ≡ rules_in row
 unfolding row_below
 rules_below e row = moved-rules e no_step row
 
--- the bound on their number still holds
+-- so the bound on their number still holds
 pub same_rules : (e : Element) (row here : List MarkedStep) → here ≡ row_below e row → rules_in row ≤ 65536 → rules_in here ≤ 65536
 same_rules e row here is few = let same : rules_in here ≡ rules_in row = ap rules_in is ∙ rules_below e row in omega (arith, same, few)
 
@@ -68,7 +68,7 @@ no_rules : rules_in [] ≡ 0
 unfolding rules_in
 no_rules = refl
 
--- At the virtual root there are all of them.
+-- The row at the virtual root has all rules.
 pub rules_begun : (rules : List Rule) → rules_in (flat_map begun_rule rules) ≡ length rules
 rules_begun [] = no_rules
 rules_begun (r ∷ rules) = begun-rules r.sign None true r.path.steps (flat_map begun_rule rules) ∙ ap suc (rules_begun rules)
@@ -91,16 +91,16 @@ next_step row i p inside is =
     ∙ ap (λ q. marked_step q ∷ marked_steps (drop (suc i) row)) (sym is)
     ∙ ap (λ n. marked_step p ∷ marked_steps (drop n row)) (sym (add-one i))
 
--- A rule that isn't the first is passed.
+-- A step that is not the last one of a rule of this sign that selects the element is passed over.
 pub first_passed : (own : Sign) (row : List Progress) (i n next : ℕ) (p : Progress) (first : Option ℕ) → i < length row → p ≡ get_or row i p → selects_as own (marked_step p) ≡ false
     → next ≡ (if is_last (marked_step p) then n + 1 else n) → first_here own (marked_steps (drop i row)) n ≡ first → first_here own (marked_steps (drop (i + 1) row)) next ≡ first
-first_passed own row i n next p first inside is other behind way =
-    ap (first_here own (marked_steps (drop (i + 1) row))) behind
+first_passed own row i n next p first inside is other after way =
+    ap (first_here own (marked_steps (drop (i + 1) row))) after
     ∙ ap (λ b. if b then Some n else first_here own (marked_steps (drop (i + 1) row)) (if is_last (marked_step p) then n + 1 else n)) (sym other)
     ∙ ap (λ steps. first_here own steps n) (sym (next_step row i p inside is))
     ∙ way
 
--- One that is, is found.
+-- One that is, gives the number.
 pub first_found : (own : Sign) (row : List Progress) (i n : ℕ) (p : Progress) (first : Option ℕ) → i < length row → p ≡ get_or row i p → selects_as own (marked_step p) ≡ true
     → first_here own (marked_steps (drop i row)) n ≡ first → Some n ≡ first
 first_found own row i n p first inside is so way =
@@ -112,11 +112,11 @@ counted : (b : Bool) (n rest : ℕ) → (if b then n + 1 else n) + rest ≡ n + 
 counted true n rest = omega arith
 counted false n rest = refl
 
--- The rules passed, and those to come, are all of them.
+-- The rules passed over and those that follow are all rules.
 pub rules_passed : (row : List Progress) (i n next all : ℕ) (p : Progress) → i < length row → p ≡ get_or row i p → next ≡ (if is_last (marked_step p) then n + 1 else n)
     → n + rules_in (marked_steps (drop i row)) ≡ all → next + rules_in (marked_steps (drop (i + 1) row)) ≡ all
-rules_passed row i n next all p inside is behind way =
-    ap (λ m. m + rules_in (marked_steps (drop (i + 1) row))) behind
+rules_passed row i n next all p inside is after way =
+    ap (λ m. m + rules_in (marked_steps (drop (i + 1) row))) after
     ∙ counted (is_last (marked_step p)) n (rules_in (marked_steps (drop (i + 1) row)))
     ∙ ap (λ m. n + m) (sym (rules_with (marked_step p) (marked_steps (drop (i + 1) row))) ∙ ap rules_in (sym (next_step row i p inside is)))
     ∙ way
@@ -125,7 +125,7 @@ is_its_last : (own : Sign) (ends : Option Sign) (here : Bool) → (option_map_or
 is_its_last own None here so = so
 is_its_last own (Some sign) here so = refl
 
--- The first one's number is less than how many there are.
+-- The number of the first such rule is less than the number of rules.
 pub first_within : (own : Sign) (row : List Progress) (i n all : ℕ) (p : Progress) → i < length row → p ≡ get_or row i p → selects_as own (marked_step p) ≡ true
     → n + rules_in (marked_steps (drop i row)) ≡ all → n < all
 first_within own row i n all p inside is so way =
@@ -135,7 +135,7 @@ first_within own row i n all p inside is so way =
     ∙ ap (λ b. if b then suc (rules_in (marked_steps (drop (i + 1) row))) else rules_in (marked_steps (drop (i + 1) row))) (is_its_last own (marked_step p).ends (marked_step p).mark.here so) in
     omega (arith, way, more)
 
--- ---- what is told of an element, and of its items
+-- ---- the explanations of an element, and of its items
 
 nothing_if : (b : Bool) (told : Explanation) (others : List Explanation) → (if b then told ∷ others else others) ≡ (if b then told ∷ [] else []) ++ others
 nothing_if true told others = refl
@@ -145,18 +145,18 @@ map-cond : (f : List ℕ → Explanation) (b : Bool) (p : List ℕ) (ps : List (
 map-cond f true p ps = refl
 map-cond f false p ps = refl
 
-map-behind : (f : List ℕ → Explanation) (test : List ℕ → Bool) (k : ℕ) (ps : List (List ℕ)) → map f (filter test (map (λ p. k ∷ p) ps)) ≡ map (λ p. f (k ∷ p)) (filter (λ p. test (k ∷ p)) ps)
-map-behind f test k [] = refl
-map-behind f test k (p ∷ ps) =
+map-after : (f : List ℕ → Explanation) (test : List ℕ → Bool) (k : ℕ) (ps : List (List ℕ)) → map f (filter test (map (λ p. k ∷ p) ps)) ≡ map (λ p. f (k ∷ p)) (filter (λ p. test (k ∷ p)) ps)
+map-after f test k [] = refl
+map-after f test k (p ∷ ps) =
     elim (test (k ∷ p)) as (λ b. map f (cond b ((k ∷ p) ∷ filter test (map (λ q. k ∷ q) ps)) (filter test (map (λ q. k ∷ q) ps))) ≡ map (λ q. f (k ∷ q)) (cond b (p ∷ filter (λ q. test (k ∷ q)) ps) (filter (λ q. test (k ∷ q)) ps)))
-    [ true ↦ ap (λ told. f (k ∷ p) ∷ told) (map-behind f test k ps) | false ↦ map-behind f test k ps ]
+    [ true ↦ ap (λ told. f (k ∷ p) ∷ told) (map-after f test k ps) | false ↦ map-after f test k ps ]
 
 told_from-is : (row : List MarkedStep) (above : List ℕ) (e : Element)
     → told_from row above e ≡ map (λ place. told_here (row_at_place row e place) (above ++ place)) (filter (λ place. is_selected_here (row_at_place row e place)) (places_below e))
 unfolding told_from
 told_from-is row above e = refl
 
--- by the steps at a child
+-- by the row at a child
 told_in_child : (row : List MarkedStep) (above : List ℕ) (e c : Element) (k : ℕ) → child e.items k ≡ Some c
     → map (λ place. told_here (row_at_place row e (k ∷ place)) (above ++ k ∷ place)) (filter (λ place. is_selected_here (row_at_place row e (k ∷ place))) (places_below c))
     ≡ told_from (row_below e row) (above ++ k ∷ []) c
@@ -166,34 +166,34 @@ told_in_child row above e c k found =
     (λ i place. sym (append_assoc above (k ∷ []) place) i)
     ∙ sym (told_from-is (row_below e row) (above ++ k ∷ []) c)
 
-pub told_numbered : (row : List MarkedStep) (above : List ℕ) (e : Element) (rest front : List Item) → front ++ rest ≡ e.items
-    → map (λ place. told_here (row_at_place row e place) (above ++ place)) (filter (λ place. is_selected_here (row_at_place row e place)) (numbered (map places_of_item rest) (next_number front)))
-    ≡ told_of_items (row_below e row) above rest (next_number front)
-told_numbered row above e [] front is = refl
-told_numbered row above e (item ∷ rest) front is =
+pub told_numbered : (row : List MarkedStep) (above : List ℕ) (e : Element) (rest prefix : List Item) → prefix ++ rest ≡ e.items
+    → map (λ place. told_here (row_at_place row e place) (above ++ place)) (filter (λ place. is_selected_here (row_at_place row e place)) (numbered (map places_of_item rest) (next_number prefix)))
+    ≡ told_of_items (row_below e row) above rest (next_number prefix)
+told_numbered row above e [] prefix is = refl
+told_numbered row above e (item ∷ rest) prefix is =
     let f : (List ℕ → Explanation) = λ place. told_here (row_at_place row e place) (above ++ place) in
     let test : (List ℕ → Bool) = λ place. is_selected_here (row_at_place row e place) in
-    let k : ℕ = next_number front in
-    item_cases (λ x. front ++ x ∷ rest ≡ e.items → map f (filter test (numbered (places_of_item x ∷ map places_of_item rest) k)) ≡ told_of_child (row_below e row) above k (element_of x) ++ told_of_items (row_below e row) above rest (number_after (element_of x) k))
+    let k : ℕ = next_number prefix in
+    item_cases (λ x. prefix ++ x ∷ rest ≡ e.items → map f (filter test (numbered (places_of_item x ∷ map places_of_item rest) k)) ≡ told_of_child (row_below e row) above k (element_of x) ++ told_of_items (row_below e row) above rest (number_after (element_of x) k))
     (λ bytes was.
     ap (λ o. map f (filter test (numbered (o ∷ map places_of_item rest) k))) (places_of_item-Text bytes)
-    ∙ ap (λ n. map f (filter test (numbered (map places_of_item rest) n))) (sym (next-Text front bytes))
-    ∙ told_numbered row above e rest (front ++ Text bytes ∷ []) (append_assoc front (Text bytes ∷ []) rest ∙ was)
-    ∙ ap (told_of_items (row_below e row) above rest) (next-Text front bytes)
+    ∙ ap (λ n. map f (filter test (numbered (map places_of_item rest) n))) (sym (next-Text prefix bytes))
+    ∙ told_numbered row above e rest (prefix ++ Text bytes ∷ []) (append_assoc prefix (Text bytes ∷ []) rest ∙ was)
+    ∙ ap (told_of_items (row_below e row) above rest) (next-Text prefix bytes)
     ∙ ap (λ o. told_of_child (row_below e row) above k o ++ told_of_items (row_below e row) above rest (number_after o k)) (sym (element_of-Text bytes)))
     (λ c was.
     ap (λ o. map f (filter test (numbered (o ∷ map places_of_item rest) k))) (places_of_item-Child c)
     ∙ ap (map f) (filter-append test (map (λ p. k ∷ p) (places_below c)) (numbered (map places_of_item rest) (k + 1)))
     ∙ map-append f (filter test (map (λ p. k ∷ p) (places_below c))) (filter test (numbered (map places_of_item rest) (k + 1)))
-    ∙ ap (λ told. told ++ map f (filter test (numbered (map places_of_item rest) (k + 1)))) (map-behind f test k (places_below c) ∙ told_in_child row above e c k (child-behind e.items front rest c was))
+    ∙ ap (λ told. told ++ map f (filter test (numbered (map places_of_item rest) (k + 1)))) (map-after f test k (places_below c) ∙ told_in_child row above e c k (child-after e.items prefix rest c was))
     ∙ ap (λ told. told_from (row_below e row) (above ++ k ∷ []) c ++ told)
-    (ap (λ n. map f (filter test (numbered (map places_of_item rest) n))) (add-one k ∙ sym (next-Child front c))
-    ∙ told_numbered row above e rest (front ++ Child c ∷ []) (append_assoc front (Child c ∷ []) rest ∙ was)
-    ∙ ap (told_of_items (row_below e row) above rest) (next-Child front c ∙ sym (add-one k)))
+    (ap (λ n. map f (filter test (numbered (map places_of_item rest) n))) (add-one k ∙ sym (next-Child prefix c))
+    ∙ told_numbered row above e rest (prefix ++ Child c ∷ []) (append_assoc prefix (Child c ∷ []) rest ∙ was)
+    ∙ ap (told_of_items (row_below e row) above rest) (next-Child prefix c ∙ sym (add-one k)))
     ∙ ap (λ o. told_of_child (row_below e row) above k o ++ told_of_items (row_below e row) above rest (number_after o k)) (sym (element_of-Child c)))
     item is
 
--- What is told of an element and inside it: of itself, where a rule selects it, and of its items.
+-- The explanations of an element and of those inside it: its own, if a rule selects it, and those of its items.
 pub told_from_is : (row : List MarkedStep) (above : List ℕ) (e : Element) → told_from row above e ≡ told_if_selected (row_below e row) above ++ told_of_items (row_below e row) above e.items 1
 told_from_is row above e =
     let f : (List ℕ → Explanation) = λ place. told_here (row_at_place row e place) (above ++ place) in
@@ -205,7 +205,7 @@ told_from_is row above e =
     ∙ ap (λ p. (if is_selected_here (row_below e row) then told_here (row_below e row) p ∷ [] else []) ++ map f (filter test (numbered (map places_of_item e.items) 1))) (append-nil above)
     ∙ ap (λ told. told_if_selected (row_below e row) above ++ told) (told_numbered row above e e.items [] refl)
 
--- Behind the last item all is told.
+-- After the last item all explanations are there.
 pub told_at_end : (row here : List MarkedStep) (above : List ℕ) (e : Element) (items : List Item) (i k : ℕ) (before told now : List Explanation)
     → here ≡ row_below e row → items ≡ e.items → length items ≤ i → told ≡ before ++ told_if_selected here above
     → now ++ told_of_items here above (drop i items) k ≡ told ++ told_of_items here above items 1 → now ≡ before ++ told_from row above e
@@ -253,7 +253,7 @@ not_as own None here so = refl
 not_as own (Some sign) false so = and_false (is_same_sign sign own)
 not_as own (Some sign) true so = absurd (true≢false so)
 
--- where no rule selects the element, none is the first
+-- Where no rule selects the element, there is no first one.
 first-none : (own : Sign) (row : List MarkedStep) (n : ℕ) → is_selected_here row ≡ false → first_here own row n ≡ None
 first-none own [] n none = refl
 first-none own (m ∷ row) n none =
@@ -262,7 +262,7 @@ first-none own (m ∷ row) n none =
 
 -- ---- which rules select a place, by the element there and its ancestors
 
--- a rule selects the chain's first element; a negative rule does
+-- A rule selects the first element of a chain; a rule that denies does.
 abbrev chosen_chain : List Rule → ChainSet
 chosen_chain rules chain = list_any (λ r. selects r.path chain) rules
 
@@ -291,12 +291,12 @@ is_selected-chain d rules place = ap (λ (test : Rule → Bool). list_any test r
 is_denied-chain : (d : Doc) (rules : List Rule) (place : List ℕ) → is_denied d rules place ≡ on_chain (denied_chain rules) (chain_at d.root [] place)
 is_denied-chain d rules place = ap (λ (test : Rule → Bool). list_any (λ r. is_deny r.sign && test r) rules) (λ i r. select-chain d r.path place i) ∙ deniers_on rules (chain_at d.root [] place)
 
--- a place is the longest of its own prefixes
+-- A place is the longest of its own prefixes.
 prefixes_are : (place : List ℕ) → prefixes place ≡ place ∷ proper place
 prefixes_are [] = refl
 prefixes_are (k ∷ place) = ap (λ ps. map (λ prefix. k ∷ prefix) ps ++ ([] ∷ [])) (prefixes_are place)
 
--- ---- what is told is what is explained
+-- ---- they are the explanations of acl_model
 
 -- all rules at a chain, if there is one
 abbrev row_on : List Rule → Option Chain → List MarkedStep
@@ -309,7 +309,7 @@ row_on_place rules (k ∷ place) e up row carried =
     elim (child e.items k) as (λ o. option_map_or (λ c. row_at_place (row_below e row) c place) o [] ≡ row_on rules (option_and_then (λ c. chain_at c (e ∷ up) place) o))
     [ None ↦ refl | Some c ↦ row_on_place rules place c (e ∷ up) (row_below e row) (ap (row_below e) carried ∙ row_below_is rules e up) ]
 
--- the steps at a place of the document
+-- the row at a place of the document
 abbrev row_of : Doc → List Rule → List ℕ → List MarkedStep
 row_of d rules place = row_at_place (flat_map begun_rule rules) d.root place
 
@@ -330,7 +330,7 @@ denied_on rules (Some chain) = row_ends is_deny rules chain
 denied_is : (d : Doc) (rules : List Rule) (place : List ℕ) → list_any denies_here (row_of d rules place) ≡ is_denied d rules place
 denied_is d rules place = ap (list_any denies_here) (row_of_is d rules place) ∙ denied_on rules (chain_at d.root [] place) ∙ sym (is_denied-chain d rules place)
 
--- where a rule selects a place, that is its own decider
+-- A place that a rule selects is its own decider.
 decider_is : (d : Doc) (rules : List Rule) (place : List ℕ) → is_selected d rules place ≡ true → decider d rules place ≡ Some place
 decider_is d rules place chosen =
     ap (find (is_selected d rules)) (prefixes_are place) ∙ ap (λ b. if b then Some place else find (is_selected d rules) (proper place)) chosen
@@ -360,7 +360,7 @@ told_here-is : (row : List MarkedStep) (place : List ℕ) → told_here row plac
 unfolding told_here
 told_here-is row place = refl
 
--- of a place that a rule selects
+-- the explanation of a place that a rule selects
 explained_is : (d : Doc) (rules : List Rule) (place : List ℕ) → is_selected d rules place ≡ true → explanation_of d rules place ≡ told_here (row_of d rules place) place
 explained_is d rules place chosen =
     let own : Sign = sign_here (row_of d rules place) Deny in
@@ -370,11 +370,11 @@ explained_is d rules place chosen =
     (first_on own d rules place (chain_at d.root [] place) refl (sym (is_selected-chain d rules place) ∙ chosen) ∙ ap (λ row. first_here own row 0) (sym (row_of_is d rules place)))
     ∙ sym (told_here-is (row_of d rules place) place)
 
--- what is told of a place with this decider
+-- the explanation of a place with this decider
 abbrev explanation_by : Doc → List Rule → List ℕ → Option (List ℕ) → Explanation
 explanation_by d rules place o = record { place = place; sign = sign_by d rules o; rule = option_and_then (first_rule d rules (sign_by d rules o)) o }
 
--- of the root, where none does
+-- the explanation of the root, where no rule selects it
 root_unselected : (d : Doc) (rules : List Rule) → is_selected d rules [] ≡ false → explanation_of d rules [] ≡ told_here (row_of d rules []) []
 unfolding sign
 root_unselected d rules none =
@@ -399,19 +399,19 @@ same_where : (f g : List ℕ → Explanation) (test : List ℕ → Bool) (ps : L
 same_where f g test [] same = refl
 same_where f g test (p ∷ ps) same = same_first f g (test p) p (filter test ps) (same p) (same_where f g test ps same)
 
--- numbered places are not the root's
+-- a place with a number is not the root's
 explained_numbered : (d : Doc) (rules : List Rule) (inside : List (Option (List (List ℕ)))) (k : ℕ) → filter (is_explained d rules) (numbered inside k) ≡ filter (is_selected d rules) (numbered inside k)
 explained_numbered d rules [] k = refl
 explained_numbered d rules (None ∷ inside) k = explained_numbered d rules inside k
 explained_numbered d rules (Some places ∷ inside) k =
     filter-append (is_explained d rules) (map (λ p. k ∷ p) places) (numbered inside (k + 1))
-    ∙ ap (λ ps. ps ++ filter (is_explained d rules) (numbered inside (k + 1))) (behind places)
+    ∙ ap (λ ps. ps ++ filter (is_explained d rules) (numbered inside (k + 1))) (after places)
     ∙ ap (λ ps. filter (is_selected d rules) (map (λ p. k ∷ p) places) ++ ps) (explained_numbered d rules inside (k + 1))
     ∙ sym (filter-append (is_selected d rules) (map (λ p. k ∷ p) places) (numbered inside (k + 1)))
   where
-    behind : (ps : List (List ℕ)) → filter (is_explained d rules) (map (λ p. k ∷ p) ps) ≡ filter (is_selected d rules) (map (λ p. k ∷ p) ps)
-    behind [] = refl
-    behind (p ∷ ps) = ap (λ qs. cond (is_selected d rules (k ∷ p)) ((k ∷ p) ∷ qs) qs) (behind ps)
+    after : (ps : List (List ℕ)) → filter (is_explained d rules) (map (λ p. k ∷ p) ps) ≡ filter (is_selected d rules) (map (λ p. k ∷ p) ps)
+    after [] = refl
+    after (p ∷ ps) = ap (λ qs. cond (is_selected d rules (k ∷ p)) ((k ∷ p) ∷ qs) qs) (after ps)
 
 selected_by_walk : (d : Doc) (rules : List Rule) → (λ place. is_selected_here (row_of d rules place)) ≡ is_selected d rules
 selected_by_walk d rules = λ i place. selected_is d rules place i
@@ -427,12 +427,12 @@ root_and_items d rules =
     ∙ ap (λ ps. explanation_of d rules [] ∷ map (explanation_of d rules) ps) (sym (explained_numbered d rules (map places_of_item d.root.items) 1))
     ∙ ap (λ ps. map (explanation_of d rules) (filter (is_explained d rules) ps)) (sym (places_below_is d.root))
 
--- the root stands first, whether a rule selects it or not
+-- The root comes first, whether a rule selects it or not.
 root_first : (b : Bool) (root : Explanation) (others : List Explanation) → (if b then [] else root ∷ []) ++ ((if b then root ∷ [] else []) ++ others) ≡ root ∷ others
 root_first true root others = refl
 root_first false root others = refl
 
--- What the walk from the root tells, with the root, is what is explained.
+-- The explanations of the walk from the root, with that of the root, are those of acl_model.
 pub explain_is : (d : Doc) (rules : List Rule)
     → told_if_unselected (row_below d.root (flat_map begun_rule rules)) ++ told_from (flat_map begun_rule rules) [] d.root ≡ explain d rules
 explain_is d rules =
@@ -451,12 +451,12 @@ or_false : (b : Bool) → (b || false) ≡ b
 or_false true = refl
 or_false false = refl
 
--- the places of what the program gives
+-- the places of what the program returns
 pub places_told : (told : List Told) → map (λ one. one.place) (explanations_in told) ≡ map (λ one. one.place) told
 places_told [] = refl
 places_told (one ∷ told) = ap (λ ps. one.place ∷ ps) (places_told told)
 
--- What the walk tells under one rule stands at the places that its path selects.
+-- The places of the explanations under one rule are those that its path selects.
 pub selected_are : (d : Doc) (path : Path) → map (λ told. told.place) (told_from (begun_steps Grant None true path.steps) [] d.root) ≡ selected d path
 selected_are d path =
     let rules : List Rule = grant_rule path ∷ [] in
@@ -466,7 +466,7 @@ selected_are d path =
     ∙ ap (λ test. filter test (places d)) (selected_by_walk d rules)
     ∙ ap (λ test. filter test (places d)) (λ i place. or_false (select d path place) i)
 
--- the lines of what the program gives
+-- the lines of what the program returns
 pub lines_told : (rules : List Rule) (told : List Told) → concat (map (λ one. explanation_line rules (explanation_in one)) told) ≡ explanation_lines rules (explanations_in told)
 lines_told rules [] = refl
 lines_told rules (one ∷ told) = ap (λ text. explanation_line rules (explanation_in one) ++ text) (lines_told rules told)

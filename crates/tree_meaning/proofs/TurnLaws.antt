@@ -1,12 +1,12 @@
--- How the writes of a loop whose parts are written by what earlier parts left join to one.
+-- The writes of a loop join to one write, where each part is written by what the parts before it left.
 use Rattle.std.proofs.Common.{◌≡◌, ℕ, List, [], ◌++◌, Option, Result, Ok, Err, Continue, Break, IsErr, OnOk, subst}
 use Rattle.std.specs.Result.{result_from_control_flow}
-use Rattle.acl_outside.specs.Writing.{Writes}
+use Rattle.acl_outside.specs.WrittenText.{Writes}
 use Rattle.acl_outside.proofs.Remaining.{Remains, Remains-all, Remains-next, Writes-failed, Writes-all}
 
 module _ {S T E : Type 0} {written : S → Option (List ℕ)} {missed : S → Option ℕ} {settled : S → Option (List ℕ)} {faults : S → ℕ} {old mid new : S}
     {q : Result T E} {piece rest all : List ℕ} (more : List ℕ) where
-  -- a part is written, and the others are still to come
+  -- a part is written, and others follow
   pub Remains-turn : {b : _} {t : T} → rest ≡ piece ++ more → Remains written missed settled faults old mid rest all
       → Writes written missed settled faults q mid new piece → q ≡ result_from_control_flow b → b ≡ Continue t
       → Remains written missed settled faults old new more all
@@ -27,12 +27,12 @@ module _ {S T E : Type 0} {written : S → Option (List ℕ)} {missed : S → Op
   pub Writes-left : {new : S} {all rest : List ℕ} → rest ≡ [] → Remains written missed settled faults old new rest all → Writes {E = E} written missed settled faults (Ok t) old new all
   Writes-left {new = new} {all = all} none before = Writes-all (subst (λ r. Remains written missed settled faults old new r all) none before)
 
--- what holds anyway holds after a good answer
+-- what is always true is true after Ok
 pub OnOk-always : {T E P : Type 0} (r : Result T E) → P → OnOk r P
 OnOk-always (Ok t) holds = holds
 OnOk-always (Err e) holds = tt
 
--- ---- under another type of faults
+-- ---- with another type of errors
 
 module _ {S T E F : Type 0} {written : S → Option (List ℕ)} {missed : S → Option ℕ} {settled : S → Option (List ℕ)} {faults : S → ℕ} {old new : S} {text : List ℕ} {r : Result T E} where
   pub Writes-good : {t : T} → r ≡ Ok t → Writes written missed settled faults r old new text → Writes {E = F} written missed settled faults (Ok t) old new text

@@ -1,4 +1,4 @@
--- What one walk over the tree makes is the view, as acl_model defines it by the signs of places.
+-- One walk over the tree makes the view that acl_model defines by the signs of places.
 use Rattle.std.proofs.Common.{◌≡◌, ℕ, ◌+◌, suc, Bool, Option, Some, None, List, [], ◌∷◌, ◌++◌, map, length, refl, ap, sym, ◌∙◌, subst, append_assoc, append-nil, add-one}
 use Rattle.std.proofs.lemmas.List.Elements.{filter_map-append}
 use Rattle.std.specs.List.{slice_get, cons_option}
@@ -12,7 +12,7 @@ use Rattle.acl_model.specs.declared.document.Item.TheVariants.{Text, Child, roll
 use Rattle.acl_model.specs.declared.document.Item.TheOpen.{Item-F}
 use Rattle.acl_model.specs.declared.rule.Sign.{Sign}
 use Rattle.acl_model.specs.declared.rule.Sign.TheVariants.{Grant, Deny}
-use Rattle.tree_meaning.specs.Marks.{MarkedStep, row_below, sign_here, signs_from, view_from, layer_view, item_view, items_view}
+use Rattle.tree_meaning.specs.inside.StepMarks.{MarkedStep, row_below, sign_here, signs_from, view_from, layer_view, item_view, items_view}
 
 view_from_filter : (row : List MarkedStep) (above : Sign) (e : Element) → view_from row above e ≡ (filter_of e).view (signs_from row above e)
 unfolding view_from
@@ -32,9 +32,9 @@ pub ruleset item_view_equations = (item_view-Text, item_view-Child)
 
 -- ---- the views of an element's items, without their numbers
 
-slice_get-at : (front : List Element) (e : Element) (rest : List Element) → slice_get (front ++ e ∷ rest) (length front) ≡ Some e
+slice_get-at : (prefix : List Element) (e : Element) (rest : List Element) → slice_get (prefix ++ e ∷ rest) (length prefix) ≡ Some e
 slice_get-at [] e rest = refl
-slice_get-at (x ∷ front) e rest = slice_get-at front e rest
+slice_get-at (x ∷ prefix) e rest = slice_get-at prefix e rest
 
 with_text-append : (own : Sign) (bytes : List ℕ) (items : List Item) → with_text own bytes items ≡ with_text own bytes [] ++ items
 with_text-append Grant bytes items = refl
@@ -44,12 +44,12 @@ with_child-append : (o : Option Element) (items : List Item) → with_child o it
 with_child-append None items = refl
 with_child-append (Some e) items = refl
 
-length-snoc : (front : List Element) (e : Element) → length (front ++ e ∷ []) ≡ suc (length front)
+length-snoc : (prefix : List Element) (e : Element) → length (prefix ++ e ∷ []) ≡ suc (length prefix)
 length-snoc [] e = refl
-length-snoc (x ∷ front) e = ap suc (length-snoc front e)
+length-snoc (x ∷ prefix) e = ap suc (length-snoc prefix e)
 
-children-append : (front rest : List Item) → children (front ++ rest) ≡ children front ++ children rest
-children-append front rest = filter_map-append element_of front rest
+children-append : (prefix rest : List Item) → children (prefix ++ rest) ≡ children prefix ++ children rest
+children-append prefix rest = filter_map-append element_of prefix rest
 
 children-Text : (bytes : List ℕ) (rest : List Item) → children (Text bytes ∷ rest) ≡ children rest
 children-Text bytes rest = ap (λ o. cons_option o (children rest)) (element_of-Text bytes)
@@ -57,26 +57,26 @@ children-Text bytes rest = ap (λ o. cons_option o (children rest)) (element_of-
 children-Child : (e : Element) (rest : List Item) → children (Child e ∷ rest) ≡ e ∷ children rest
 children-Child e rest = ap (λ o. cons_option o (children rest)) (element_of-Child e)
 
--- the number of the element child behind these items
+-- the number of the element child after these items
 abbrev pub next_number : List Item → ℕ
-next_number front = suc (length (children front))
+next_number prefix = suc (length (children prefix))
 
-pub next-Text : (front : List Item) (bytes : List ℕ) → next_number (front ++ Text bytes ∷ []) ≡ next_number front
-next-Text front bytes =
-    ap (λ es. suc (length es)) (children-append front (Text bytes ∷ []) ∙ ap (λ es. children front ++ es) (children-Text bytes []) ∙ append-nil (children front))
+pub next-Text : (prefix : List Item) (bytes : List ℕ) → next_number (prefix ++ Text bytes ∷ []) ≡ next_number prefix
+next-Text prefix bytes =
+    ap (λ es. suc (length es)) (children-append prefix (Text bytes ∷ []) ∙ ap (λ es. children prefix ++ es) (children-Text bytes []) ∙ append-nil (children prefix))
 
-pub next-Child : (front : List Item) (e : Element) → next_number (front ++ Child e ∷ []) ≡ suc (next_number front)
-next-Child front e =
-    ap (λ es. suc (length es)) (children-append front (Child e ∷ []) ∙ ap (λ es. children front ++ es) (children-Child e []))
-    ∙ ap suc (length-snoc (children front) e)
+pub next-Child : (prefix : List Item) (e : Element) → next_number (prefix ++ Child e ∷ []) ≡ suc (next_number prefix)
+next-Child prefix e =
+    ap (λ es. suc (length es)) (children-append prefix (Child e ∷ []) ∙ ap (λ es. children prefix ++ es) (children-Child e []))
+    ∙ ap suc (length-snoc (children prefix) e)
 
-pub child-behind : (items front rest : List Item) (e : Element) → front ++ Child e ∷ rest ≡ items → child items (next_number front) ≡ Some e
-child-behind items front rest e is =
-    ap (λ xs. slice_get (children xs) (length (children front))) (sym is)
-    ∙ ap (λ es. slice_get es (length (children front))) (children-append front (Child e ∷ rest) ∙ ap (λ es. children front ++ es) (children-Child e rest))
-    ∙ slice_get-at (children front) e (children rest)
+pub child-after : (items prefix rest : List Item) (e : Element) → prefix ++ Child e ∷ rest ≡ items → child items (next_number prefix) ≡ Some e
+child-after items prefix rest e is =
+    ap (λ xs. slice_get (children xs) (length (children prefix))) (sym is)
+    ∙ ap (λ es. slice_get es (length (children prefix))) (children-append prefix (Child e ∷ rest) ∙ ap (λ es. children prefix ++ es) (children-Child e rest))
+    ∙ slice_get-at (children prefix) e (children rest)
 
--- the steps at an element, and its sign
+-- the row at an element, and its sign
 abbrev row_at_element : List MarkedStep → Element → List MarkedStep
 row_at_element row e = row_below e row
 
@@ -84,32 +84,32 @@ abbrev sign_below : List MarkedStep → Sign → Element → Sign
 sign_below row above e = sign_here (row_below e row) above
 
 -- the signs in a child are those that the walk has there
-in_child-is : (row : List MarkedStep) (above : Sign) (e : Element) (front rest : List Item) (c : Element) → front ++ Child c ∷ rest ≡ e.items
-    → in_child (signs_from row above e) (next_number front) ≡ signs_from (row_at_element row e) (sign_below row above e) c
-in_child-is row above e front rest c is =
-    λ i place. ap (λ o. option_map_or (λ x. signs_from (row_at_element row e) (sign_below row above e) x place) o (sign_below row above e)) (child-behind e.items front rest c is) i
+in_child-is : (row : List MarkedStep) (above : Sign) (e : Element) (prefix rest : List Item) (c : Element) → prefix ++ Child c ∷ rest ≡ e.items
+    → in_child (signs_from row above e) (next_number prefix) ≡ signs_from (row_at_element row e) (sign_below row above e) c
+in_child-is row above e prefix rest c is =
+    λ i place. ap (λ o. option_map_or (λ x. signs_from (row_at_element row e) (sign_below row above e) x place) o (sign_below row above e)) (child-after e.items prefix rest c is) i
 
-unnumbered : (row : List MarkedStep) (above : Sign) (e : Element) (rest front : List Item) → front ++ rest ≡ e.items
-    → views (sign_below row above e) (map filter_of_item rest) (signs_from row above e) (next_number front) ≡ items_view (row_at_element row e) (sign_below row above e) rest
-unnumbered row above e [] front is = refl
-unnumbered row above e (item ∷ rest) front is =
+unnumbered : (row : List MarkedStep) (above : Sign) (e : Element) (rest prefix : List Item) → prefix ++ rest ≡ e.items
+    → views (sign_below row above e) (map filter_of_item rest) (signs_from row above e) (next_number prefix) ≡ items_view (row_at_element row e) (sign_below row above e) rest
+unnumbered row above e [] prefix is = refl
+unnumbered row above e (item ∷ rest) prefix is =
     let here : List MarkedStep = row_at_element row e in
     let own : Sign = sign_below row above e in
     let signs : Signs = signs_from row above e in
-    item_cases (λ x. front ++ x ∷ rest ≡ e.items → views own (filter_of_item x ∷ map filter_of_item rest) signs (next_number front) ≡ item_view here own x ++ items_view here own rest)
+    item_cases (λ x. prefix ++ x ∷ rest ≡ e.items → views own (filter_of_item x ∷ map filter_of_item rest) signs (next_number prefix) ≡ item_view here own x ++ items_view here own rest)
     (λ bytes was.
-    ap (λ s. views own (s ∷ map filter_of_item rest) signs (next_number front)) (filter_of_item-Text bytes)
-    ∙ with_text-append own bytes (views own (map filter_of_item rest) signs (next_number front))
+    ap (λ s. views own (s ∷ map filter_of_item rest) signs (next_number prefix)) (filter_of_item-Text bytes)
+    ∙ with_text-append own bytes (views own (map filter_of_item rest) signs (next_number prefix))
     ∙ ap (λ items. with_text own bytes [] ++ items)
-    (ap (views own (map filter_of_item rest) signs) (sym (next-Text front bytes)) ∙ unnumbered row above e rest (front ++ Text bytes ∷ []) (append_assoc front (Text bytes ∷ []) rest ∙ was))
+    (ap (views own (map filter_of_item rest) signs) (sym (next-Text prefix bytes)) ∙ unnumbered row above e rest (prefix ++ Text bytes ∷ []) (append_assoc prefix (Text bytes ∷ []) rest ∙ was))
     ∙ ap (λ items. items ++ items_view here own rest) (sym (item_view-Text here own bytes)))
     (λ c was.
-    ap (λ s. views own (s ∷ map filter_of_item rest) signs (next_number front)) (filter_of_item-Child c)
-    ∙ ap (λ inside. with_child ((filter_of c).view inside) (views own (map filter_of_item rest) signs (next_number front + 1))) (in_child-is row above e front rest c was)
-    ∙ ap (λ o. with_child o (views own (map filter_of_item rest) signs (next_number front + 1))) (sym (view_from_filter here own c))
-    ∙ with_child-append (view_from here own c) (views own (map filter_of_item rest) signs (next_number front + 1))
+    ap (λ s. views own (s ∷ map filter_of_item rest) signs (next_number prefix)) (filter_of_item-Child c)
+    ∙ ap (λ inside. with_child ((filter_of c).view inside) (views own (map filter_of_item rest) signs (next_number prefix + 1))) (in_child-is row above e prefix rest c was)
+    ∙ ap (λ o. with_child o (views own (map filter_of_item rest) signs (next_number prefix + 1))) (sym (view_from_filter here own c))
+    ∙ with_child-append (view_from here own c) (views own (map filter_of_item rest) signs (next_number prefix + 1))
     ∙ ap (λ items. with_child (view_from here own c) [] ++ items)
-    (ap (views own (map filter_of_item rest) signs) (add-one (next_number front) ∙ sym (next-Child front c)) ∙ unnumbered row above e rest (front ++ Child c ∷ []) (append_assoc front (Child c ∷ []) rest ∙ was))
+    (ap (views own (map filter_of_item rest) signs) (add-one (next_number prefix) ∙ sym (next-Child prefix c)) ∙ unnumbered row above e rest (prefix ++ Child c ∷ []) (append_assoc prefix (Child c ∷ []) rest ∙ was))
     ∙ ap (λ items. items ++ items_view here own rest) (sym (item_view-Child here own c)))
     item is
 
@@ -120,7 +120,7 @@ view_by_sign-same : (own : Sign) (inside filled : Bool) (name : List ℕ) (attri
 view_by_sign-same Grant inside filled name attributes items same = refl
 view_by_sign-same Deny inside filled name attributes items same = ap (λ b. view_by_sign Deny b name attributes items) (sym (same refl))
 
--- An element of the view is its sign, its name and attributes, and what its items leave.
+-- The view of an element follows from its sign, its name and attributes, and the views of its items.
 pub view_from_is : (row : List MarkedStep) (above : Sign) (e : Element)
     → view_from row above e
     ≡ view_by_sign (sign_here (row_below e row) above) (is_filled (items_view (row_below e row) (sign_here (row_below e row) above) e.items)) e.name e.attributes
@@ -134,7 +134,7 @@ view_from_is row above e =
     (λ deny. subst (λ s. is_filled (views s (map filter_of_item e.items) signs 1) ≡ grant_within (map filter_of_item e.items) signs 1) (sym deny) (views-empty e.items signs 1))
     ∙ ap (λ items. view_by_sign own (is_filled items) e.name e.attributes items) (unnumbered row above e e.items [] refl)
 
--- what the walk has at an element's end is the element's view
+-- what the walk has at the end of an element is the element's view
 pub view_at_end : (row here : List MarkedStep) (above own : Sign) (e : Element) (items : List Item)
     → here ≡ row_below e row → own ≡ sign_here here above → items ≡ items_view here own e.items
     → view_by_sign own (is_filled items) e.name e.attributes items ≡ view_from row above e

@@ -1,5 +1,1 @@
-pub mod Marks
-pub mod Known
-pub mod Told
-pub mod Shows
-pub mod Decided
+pub mod inside

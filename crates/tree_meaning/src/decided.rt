@@ -1,13 +1,13 @@
-//! Where the sign of each element comes from, found by one walk in document order. All the memory that writing the
-//! explanations takes is taken here.
+//! Finds where the sign of each element comes from, by one walk in document order. All the memory that writing the
+//! explanations needs is allocated here.
 
 ghost use Rattle.std.specs.Prelude.{◌≡◌, ◌≤◌, ◌++◌, Some, IfOk, OnOk, length, drop};
 ghost use Rattle.std.specs.List.{flat_map};
 ghost use Rattle.acl_model.specs.Places.{element_of};
-ghost use Rattle.tree_meaning.specs.Known.{StartsWith, preds_of, flags_within, flags_of_item, flags_of_items};
-ghost use Rattle.tree_meaning.specs.Marks.{marked_steps, begun_rule};
-ghost use Rattle.tree_meaning.specs.Told.{rules_in};
-ghost use Rattle.tree_meaning.specs.Decided.{decided_here, entry_here, entries_from, entries_of_child, entries_of_items, entries_of_root};
+ghost use Rattle.tree_meaning.specs.inside.Known.{StartsWith, preds_of, flags_within, flags_of_item, flags_of_items};
+ghost use Rattle.tree_meaning.specs.inside.StepMarks.{marked_steps, begun_rule};
+ghost use Rattle.tree_meaning.specs.inside.ExplainWalk.{rules_in};
+ghost use Rattle.tree_meaning.specs.inside.Decided.{decided_here, entry_here, entries_from, entries_of_child, entries_of_items, entries_of_root};
 
 use crate::explain::{first_rule, is_selected};
 use crate::known::Known;
@@ -17,16 +17,16 @@ use acl_model::{Doc, Element, Item, Rule, Sign};
 use acl_outside::NoMemory;
 use std::alloc::{AllocError, Global};
 
-/// Where the sign of an element comes from.
+/// The sign of an element, and the rule that it comes from.
 #[derive(Clone, Copy)]
 pub(crate) struct Decided {
     pub sign: Sign,
-    /// The number, from 0, of the first rule of this sign that selects the element; none, where no rule does.
+    /// The number, from 0, of the first rule of this sign that selects the element; `None` where no rule does.
     pub rule: Option<u16>,
 }
 
-/// Where the sign of an element comes from, by the steps at it; where no rule selects it, that it is denied by none.
-#[tactic(auto, unfolding(crate::specs::Decided::decided_here))]
+/// Where the sign of an element comes from, by the row at it. Where no rule selects it, it is denied and has no rule.
+#[tactic(auto, unfolding(crate::specs::inside::Decided::decided_here))]
 fn decided_by(row: &[Progress<'_>]) -> Decided
     requires { rules_in (marked_steps row.now) ≤ 65536 }
     ensures { result ≡ decided_here (marked_steps row.now) }
@@ -38,7 +38,7 @@ fn decided_by(row: &[Progress<'_>]) -> Decided
     }
 }
 
-/// Where the sign of an element comes from, where a rule selects it.
+/// The entry of an element, by the row at it: `None` where no rule selects it.
 fn decided_if_selected(row: &[Progress<'_>]) -> Option<Decided>
     requires { rules_in (marked_steps row.now) ≤ 65536 }
     ensures { result ≡ entry_here (marked_steps row.now) }
@@ -50,7 +50,7 @@ fn decided_if_selected(row: &[Progress<'_>]) -> Option<Decided>
     }
 }
 
-/// Adds the entries of an element and of those inside it.
+/// Appends the entries of an element and of those inside it, by the row at its parent.
 #[cycle(decided)]
 #[tactic(auto, using(crate::proofs::ToldLaws::rules_below, crate::proofs::KnownLaws::walk_steps))]
 fn find_in_element(
@@ -74,7 +74,7 @@ fn find_in_element(
     Ok(())
 }
 
-/// Adds the entries of the elements inside an element, by the steps at it.
+/// Appends the entries of the elements inside an element, by the row at it.
 #[cycle(decided)]
 #[tactic(auto, using(crate::proofs::KnownLaws::walk_steps))]
 fn find_in_items(
@@ -98,6 +98,7 @@ fn find_in_items(
     Ok(())
 }
 
+/// Appends the entries of the elements in an item, by the row at the element around it.
 #[cycle(decided)]
 #[tactic(auto, using(crate::proofs::SignLaws::element_laws, crate::proofs::KnownLaws::item_flags))]
 fn find_in_item(
@@ -124,8 +125,8 @@ fn find_in_item(
     }
 }
 
-/// Where the sign of the root and of each element that a rule selects comes from: an entry for each element, in document
-/// order.
+/// The entries of all elements of a document, in document order. The root has a decision, and so has each element
+/// that a rule selects.
 pub(crate) fn find_all_decided(
     alloc: Global,
     doc: &Doc,

@@ -1,11 +1,12 @@
-//! Which elements rules select, and where the signs of a document come from, by one walk over it in document order.
+//! Finds which elements a path selects, and where the signs of a document's elements come from, by one walk in document
+//! order.
 
 ghost use Rattle.std.specs.Prelude.{◌≡◌, ◌<◌, ◌≤◌, ◌+◌, ◌-◌, ◌^◌, [], ◌∷◌, ◌++◌, IfOk, OnOk, map, length, drop, if◌then◌else◌};
 ghost use Rattle.acl_model.specs.Places.{element_of};
 ghost use Rattle.acl_model.specs.Explain.{explain, selected};
-ghost use Rattle.tree_meaning.specs.Known.{StartsWith, preds_of, flags_within, flags_of_item};
-ghost use Rattle.tree_meaning.specs.Marks.{marked_step, marked_steps, row_below};
-ghost use Rattle.tree_meaning.specs.Told.{explanation_in, explanations_in, rules_in, is_last, selects_as, first_here, is_selected_here, told_here, told_if_selected, told_if_unselected, told_from, told_of_child, number_after};
+ghost use Rattle.tree_meaning.specs.inside.Known.{StartsWith, preds_of, flags_within, flags_of_item};
+ghost use Rattle.tree_meaning.specs.inside.StepMarks.{marked_step, marked_steps, row_below};
+ghost use Rattle.tree_meaning.specs.inside.ExplainWalk.{explanation_in, explanations_in, rules_in, is_last, selects_as, first_here, is_selected_here, told_here, told_if_selected, told_if_unselected, told_from, told_of_child, number_after};
 
 use crate::known::Known;
 use crate::marks::{Progress, all_begun, all_below, begin, does_any_select, sign_of};
@@ -15,17 +16,18 @@ use acl_model::{Doc, Element, Item, Path, Place, Rule, Sign};
 use acl_outside::NoMemory;
 use std::alloc::{AllocError, Global};
 
-/// What is told of an element: its sign, and where that comes from.
+/// The explanation of an element: its sign, and the rule that it comes from.
 #[derive(Debug, Drop)]
 pub struct Told {
     pub place: Place,
     pub sign: Sign,
-    /// The number, from 0, of the first rule of this sign that selects the element's decider; none, where no rule does.
+    /// The number, from 0, of the first rule of this sign that selects the element's decider; `None` where no rule
+    /// does.
     pub rule: Option<u16>,
 }
 
-/// The number of the rule behind this step.
-fn number_behind(progress: &Progress<'_>, number: u32) -> u32
+/// The number of the rule after this step.
+fn next_child_number(progress: &Progress<'_>, number: u32) -> u32
     requires { number ≤ 65536 }
     ensures { result ≡ (if is_last (marked_step progress.now) then number + 1 else number) }
 {
@@ -35,7 +37,7 @@ fn number_behind(progress: &Progress<'_>, number: u32) -> u32
     }
 }
 
-/// Whether a rule of this sign ends here.
+/// Whether this is the last step of a rule of this sign that selects the element.
 fn does_select_as(progress: &Progress<'_>, own: Sign) -> bool
     ensures { result ≡ selects_as own (marked_step progress.now) }
 {
@@ -48,7 +50,7 @@ fn does_select_as(progress: &Progress<'_>, own: Sign) -> bool
     }
 }
 
-/// The number of the first rule of this sign that selects the element.
+/// The number of the first rule of this sign that selects the element; `None` where none does.
 pub(crate) fn first_rule(row: &[Progress<'_>], own: Sign) -> Option<u16>
     requires { rules_in (marked_steps row.now) ≤ 65536 }
     ensures { result ≡ first_here own (marked_steps row.now) 0 }
@@ -58,13 +60,13 @@ pub(crate) fn first_rule(row: &[Progress<'_>], own: Sign) -> Option<u16>
         if does_select_as(progress, own) {
             return Some(number as u16);
         }
-        number = number_behind(progress, number);
+        number = next_child_number(progress, number);
     }
     None
 }
 
-/// What is told of the element at this place, by the steps at it.
-#[tactic(auto, unfolding(crate::specs::Told::told_here))]
+/// The explanation of the element at this place, by the row at it.
+#[tactic(auto, unfolding(crate::specs::inside::ExplainWalk::told_here))]
 fn told_at(alloc: Global, row: &[Progress<'_>], place: &[u64]) -> Result<Told, AllocError>
     requires { rules_in (marked_steps row.now) ≤ 65536 }
     ensures { IfOk result
@@ -78,6 +80,7 @@ fn told_at(alloc: Global, row: &[Progress<'_>], place: &[u64]) -> Result<Told, A
     })
 }
 
+/// Whether some rule selects the element, by the row at it.
 #[tactic(auto, using(crate::proofs::Lists::any_map))]
 pub(crate) fn is_selected(row: &[Progress<'_>]) -> bool
     ensures { result ≡ is_selected_here (marked_steps row.now) }
@@ -85,7 +88,7 @@ pub(crate) fn is_selected(row: &[Progress<'_>]) -> bool
     does_any_select(row)
 }
 
-/// Tells of the element at this place, where a rule selects it, by the steps at it.
+/// Appends the explanation of the element at this place, if a rule selects it, by the row at it.
 fn tell_if_selected(
     alloc: Global,
     row: &[Progress<'_>],
@@ -102,7 +105,7 @@ fn tell_if_selected(
     Ok(())
 }
 
-/// Tells of the root, where no rule selects it, by the steps at the virtual root.
+/// Appends the explanation of the root, if no rule selects it, by the row at the virtual root.
 fn tell_if_unselected(
     alloc: Global,
     row: &[Progress<'_>],
@@ -124,7 +127,7 @@ fn tell_if_unselected(
     Ok(())
 }
 
-/// The number of the next element child, behind an item.
+/// The number of the next element child after an item: one more after an element.
 #[tactic(auto, using(crate::proofs::SignLaws::element_laws))]
 pub(crate) fn number_after(item: &Item, number: u64) -> u64
     requires { number < 2 ^ 64 - 1 }
@@ -136,7 +139,8 @@ pub(crate) fn number_after(item: &Item, number: u64) -> u64
     }
 }
 
-/// Tells of an element, where a rule selects it, and of those inside it. `place` is its place, before and after the call.
+/// Appends the explanations of an element and of those inside it, of each that a rule selects. `place` is the place of
+/// the element, before and after the call.
 #[cycle(walk)]
 #[tactic(auto, using(crate::proofs::ToldLaws::rules_below, crate::proofs::Lists::list_steps, crate::proofs::KnownLaws::walk_steps))]
 fn explain_element(
@@ -167,7 +171,7 @@ fn explain_element(
     Ok(())
 }
 
-/// Tells of the elements in an item of the element at this place; an element child has this number.
+/// Does the same for the elements in an item of the element at `place`. If the item is an element, it has this number.
 #[cycle(walk)]
 #[tactic(auto, using(crate::proofs::SignLaws::element_laws, crate::proofs::Lists::list_steps, crate::proofs::KnownLaws::item_flags))]
 fn explain_item(
@@ -200,7 +204,7 @@ fn explain_item(
     }
 }
 
-/// Tells of each element that a rule selects.
+/// Appends the explanation of each element that a rule selects.
 fn explain_all(
     alloc: Global,
     row: &[Progress<'_>],
@@ -219,8 +223,7 @@ fn explain_all(
     Ok(())
 }
 
-/// The root, and each element that a rule selects, in document order, with the sign of each and the rule that it comes
-/// from.
+/// The explanations of the root and of each element that a rule selects, in document order.
 pub fn explain_tree(alloc: Global, doc: &Doc, rules: &[Rule]) -> Result<Vec<Told>, NoMemory>
     requires { length rules.now ≤ 65536 }
     ensures exact { IfOk result
@@ -234,6 +237,7 @@ pub fn explain_tree(alloc: Global, doc: &Doc, rules: &[Rule]) -> Result<Vec<Told
     Ok(told)
 }
 
+/// The places of these explanations.
 fn places_of(alloc: Global, told: Vec<Told>) -> Result<Vec<Place>, AllocError>
     ensures { IfOk result (λ places. places.items ≡ map (λ one. one.place) told.items) }
 {

@@ -1,14 +1,15 @@
-//! Writes where the signs of a document's elements come from without a list of places: one walk finds the entry of each
-//! element, and one writes by that, without memory. It carries the place as a list on the call stack.
+//! Writes where the signs of a document's elements come from, without a list of places. One walk finds the entry of
+//! each element. A second one writes by the entries, without allocating, and keeps the place as a linked list on the
+//! stack.
 
 ghost use Rattle.std.specs.Prelude.{◌≡◌, ◌≤◌, ◌<◌, ◌-◌, ◌^◌, [], ◌∷◌, ◌++◌, OnOk, map, drop, decimal, length};
 ghost use Rattle.std.specs.List.{concat};
 ghost use Rattle.acl_model.specs.Ascii.{slash};
 ghost use Rattle.acl_model.specs.Places.{element_of};
 ghost use Rattle.acl_model.specs.Explain.{place_text, explanation_line, explanation_lines, explain_text};
-ghost use Rattle.acl_outside.specs.Writing.{Writes};
-ghost use Rattle.tree_meaning.specs.Shows.{WritesView};
-ghost use Rattle.tree_meaning.specs.Decided.{place_of, first_entry, explanation_at, told_by_entry, told_below, entries_after, told_below_child, entries_after_child, told_below_items, entries_after_items};
+ghost use Rattle.acl_outside.specs.WrittenText.{Writes};
+ghost use Rattle.tree_meaning.specs.inside.Shows.{WritesView};
+ghost use Rattle.tree_meaning.specs.inside.Decided.{place_of, first_entry, explanation_at, told_by_entry, told_below, entries_after, told_below_child, entries_after_child, told_below_items, entries_after_items};
 
 use crate::decided::{Decided, find_all_decided};
 use crate::explain::number_after;
@@ -18,11 +19,11 @@ use acl_outside::{Failed, NoMemory, Sink, write_pieces};
 use line_writer::{end_line, rule_word, write_explanation_head, write_number, write_place};
 use std::alloc::Global;
 
-/// Where an element stands.
+/// Where an element is in the document.
 #[derive(Clone, Copy)]
 enum Position<'a> {
     Root,
-    /// The element child of this number, from 1, of the element there.
+    /// The element child with this number, from 1, of the element at `parent`.
     Child {
         parent: &'a Position<'a>,
         number: u64,
@@ -35,6 +36,7 @@ struct Entries<'a> {
     left: &'a [Option<Decided>],
 }
 
+/// Takes the next entry off the list.
 fn next_entry(entries: &mut Entries<'_>) -> Option<Decided>
     ensures entry { result ≡ first_entry entries.old.left.now }
     ensures left { entries.new.left.now ≡ drop 1 entries.old.left.now }
@@ -63,6 +65,7 @@ fn write_numbers_of<K: Sink>(position: &Position<'_>, sink: &mut K) -> Result<()
     }
 }
 
+/// Writes the place of a position.
 fn write_position<K: Sink>(position: &Position<'_>, sink: &mut K) -> Result<(), Failed>
     ensures { Writes K.written K.missed K.settled K.faults result sink.old sink.new
         (place_text (place_of position.now)) }
@@ -73,6 +76,7 @@ fn write_position<K: Sink>(position: &Position<'_>, sink: &mut K) -> Result<(), 
     }
 }
 
+/// Writes the line of an element.
 fn write_line<K: Sink>(
     decided: Decided,
     position: &Position<'_>,
@@ -87,7 +91,7 @@ fn write_line<K: Sink>(
     end_line(sink)
 }
 
-/// Writes the line of an element, where it has an entry.
+/// Writes the line of an element, if its entry has a decision.
 fn write_entry<K: Sink>(
     entry: Option<Decided>,
     position: &Position<'_>,
@@ -146,7 +150,8 @@ fn write_items<K: Sink>(
     Ok(())
 }
 
-/// Writes the lines of the elements in an item of the element at this position; an element child has this number.
+/// Writes the lines of the elements in an item of the element at `parent`. If the item is an element, it has this
+/// number.
 #[cycle(told)]
 fn write_item<K: Sink>(
     item: &Item,
@@ -174,6 +179,7 @@ fn write_item<K: Sink>(
     }
 }
 
+/// Writes the lines of a document by the list of all entries.
 fn write_decided<K: Sink>(
     doc: &Doc,
     entries: &[Option<Decided>],
@@ -187,9 +193,9 @@ fn write_decided<K: Sink>(
     write_element(&doc.root, &Position::Root, &mut entries, rules, sink)
 }
 
-/// Writes where the signs of a document's elements come from: a line for the root, and one for each element that a rule
-/// selects. All memory is taken before the first byte, a few bytes for each element, however deep it stands. Where the sink
-/// fails, a prefix was written, and nothing after the failure.
+/// Writes where the signs of a document's elements come from: a line for the root, and one for each element that a
+/// rule selects. All memory is allocated before the first byte is written: a few bytes for each element, at any
+/// depth. If the sink fails, a prefix was written, and nothing after the failure.
 pub fn write_explanation_of<K: Sink>(
     alloc: Global,
     doc: &Doc,

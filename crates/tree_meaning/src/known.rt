@@ -1,4 +1,4 @@
-//! Which predicates hold at the elements of a document, as flags that a walk goes along with.
+//! Which predicates hold at the elements of a document, as flags that a walk reads in document order.
 
 ghost use Rattle.std.specs.Prelude.{◌≡◌, take, drop};
 ghost use Rattle.std.specs.List.{list_all};
@@ -6,7 +6,7 @@ ghost use Rattle.std.specs.List.{list_all};
 use acl_bits::Flags;
 use std::marker::Model;
 
-/// The flags of the predicates at the elements that a walk has still to come to, in document order.
+/// The flags of the predicates at the elements that a walk has not reached yet, in document order.
 #[derive(Drop)]
 pub struct Known<'a> {
     flags: &'a Flags,
@@ -31,7 +31,7 @@ impl<'a> Known<'a> {
         Known { flags, at: 0 }
     }
 
-    /// Whether each of the next flags is set, of so many as there are.
+    /// Whether each of the next `count` flags is set, or each that is left where there are fewer.
     pub fn are_set(&self, count: usize) -> bool
         ensures { result ≡ list_all (λ flag. flag) (take count self.now) }
     {
@@ -44,7 +44,7 @@ impl<'a> Known<'a> {
         true
     }
 
-    /// Moves on past so many flags.
+    /// Skips `count` flags, or all that are left.
     pub fn pass(&mut self, count: usize)
         ensures { self.new ≡ drop count self.old }
     {

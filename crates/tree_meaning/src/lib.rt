@@ -1,5 +1,5 @@
-//! What paths and rules mean on a whole document: what a path selects, where each sign comes from, and the authorised
-//! view. Each is found by one walk over the tree, after one that finds which predicates hold where.
+//! Evaluates paths and rules on a whole document: what a path selects, where each sign comes from, and the authorised
+//! view. Each takes one walk over the tree, after a walk that finds which predicates hold where.
 #![tactic(auto)]
 
 mod decided;

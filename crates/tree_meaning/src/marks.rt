@@ -1,38 +1,38 @@
-//! How far each rule has come on the way down to an element: its steps, each with the mark whether it leads there.
+//! The NFA states of the rules at an element. A *row* is the list of all steps of all rules, each with its state.
 
 ghost use Rattle.std.specs.Prelude.{◌≡◌, ◌&&◌, IfOk, OnOk, map, length, drop, ◌++◌, true, Some, None};
 ghost use Rattle.std.specs.Option.{option_map_or, option_copied};
 ghost use Rattle.std.specs.List.{list_any, flat_map};
 ghost use Rattle.acl_model.specs.Select.{keeps};
 ghost use Rattle.predicate_walk.specs.Truths.{truths_at};
-ghost use Rattle.tree_meaning.specs.Known.{StartsWith, preds_of_step, preds_of};
-ghost use Rattle.tree_meaning.specs.Marks.{marked_step, marked_steps, begun_rule, begun_steps, leads_from, reaches, row_below, mark_below, selects_here, denies_here, sign_here};
+ghost use Rattle.tree_meaning.specs.inside.Known.{StartsWith, preds_of_step, preds_of};
+ghost use Rattle.tree_meaning.specs.inside.StepMarks.{marked_step, marked_steps, begun_rule, begun_steps, leads_from, reaches, row_below, mark_below, selects_here, denies_here, sign_here};
 
 use crate::known::Known;
 use acl_model::{Axis, Element, Rule, Sign, Step};
 use predicate_walk::does_pass;
 use std::alloc::{AllocError, Global};
 
-/// Whether the steps up to one lead to an element.
+/// The state of a step at an element: where the steps up to this one lead.
 #[derive(Clone, Copy)]
 pub struct Mark {
     /// To the element itself.
     pub here: bool,
-    /// To the element, or to an ancestor of it.
+    /// To the element or to an ancestor.
     pub above: bool,
 }
 
-/// A step of a rule, and how far it has come.
+/// A step of a rule, with its state at an element.
 #[derive(Clone, Copy)]
 pub struct Progress<'a> {
-    /// `None` is the virtual root, at which each rule begins.
+    /// `None` is the virtual root, where each rule begins.
     pub step: Option<&'a Step>,
-    /// The sign of the rule, where this is its last step.
+    /// The sign of the rule, if this is its last step.
     pub ends: Option<Sign>,
     pub mark: Mark,
 }
 
-/// Each rule at the virtual root, above the document, one behind another.
+/// The row at the virtual root, which is above the document: the steps of one rule after another.
 #[tactic(auto, using(crate::proofs::Lists::list_steps))]
 pub fn all_begun<'a>(alloc: Global, rules: &'a [Rule]) -> Result<Vec<Progress<'a>>, AllocError>
     ensures { IfOk result (λ row. marked_steps row.items ≡ flat_map begun_rule rules.now) }
@@ -44,7 +44,7 @@ pub fn all_begun<'a>(alloc: Global, rules: &'a [Rule]) -> Result<Vec<Progress<'a
     Ok(row)
 }
 
-/// Adds the steps of a rule, as they stand at the virtual root.
+/// Appends the steps of a rule, with their states at the virtual root.
 #[tactic(auto, using(crate::proofs::Lists::list_steps))]
 pub fn begin<'a>(
     row: &mut Vec<Progress<'a>>,
@@ -73,6 +73,7 @@ pub fn begin<'a>(
     Ok(())
 }
 
+/// Whether the axis leads to a child, where `before` is the mark of the step before at the parent.
 fn does_lead_from(axis: Axis, before: Mark) -> bool
     ensures { result ≡ leads_from axis before }
 {
@@ -82,7 +83,8 @@ fn does_lead_from(axis: Axis, before: Mark) -> bool
     }
 }
 
-/// Whether the step keeps the element. The next flags say whether its predicates hold there.
+/// Whether the step keeps the element: its test passes, and all its predicates hold. The next flags are those of its
+/// predicates.
 #[tactic(auto, using(crate::proofs::KnownLaws::kept))]
 fn does_keep(step: &Step, element: &Element, known: &Known<'_>) -> bool
     requires { StartsWith (truths_at step.now.preds element.now) known.now }
@@ -91,8 +93,8 @@ fn does_keep(step: &Step, element: &Element, known: &Known<'_>) -> bool
     does_pass(&step.test, element.name.as_slice()) && known.are_set(step.preds.as_slice().len())
 }
 
-/// Whether the step leads to the element. The flags of its predicates are asked only where the step
-/// before led to it and the name passes, and are passed always.
+/// Whether the step leads to the element. The flags of its predicates are read only where the axis leads there and the
+/// name passes. They are skipped in any case.
 fn does_step_reach(step: &Step, before: Mark, element: &Element, known: &mut Known<'_>) -> bool
     requires { StartsWith (truths_at step.now.preds element.now) known.old }
     ensures reached { result ≡ reaches (Some step.now) before element.now }
@@ -104,7 +106,7 @@ fn does_step_reach(step: &Step, before: Mark, element: &Element, known: &mut Kno
     reached
 }
 
-/// The same of a step of a row. No step leads to the virtual root, which has no flags.
+/// The same for a step of a row. Nothing leads to the virtual root, which has no flags.
 fn does_reach(step: Option<&Step>, before: Mark, element: &Element, known: &mut Known<'_>) -> bool
     requires { StartsWith (truths_at (preds_of_step (option_copied step)) element.now) known.old }
     ensures reached { result ≡ reaches (option_copied step.entry) before element.now }
@@ -118,6 +120,7 @@ fn does_reach(step: Option<&Step>, before: Mark, element: &Element, known: &mut 
     }
 }
 
+/// The mark of a step at a child, from its mark at the parent.
 fn below(here: bool, mark: Mark) -> Mark
     ensures { result ≡ mark_below here mark }
 {
@@ -127,9 +130,9 @@ fn below(here: bool, mark: Mark) -> Mark
     }
 }
 
-/// All rules one element further down. The flags of their predicates at the element come next, and
-/// are passed.
-#[tactic(auto, using(crate::proofs::Lists::list_steps), unfolding(crate::specs::Marks::row_below))]
+/// The row at an element, from the row at its parent. The next flags are those of the predicates at the element, and
+/// they are skipped.
+#[tactic(auto, using(crate::proofs::Lists::list_steps), unfolding(crate::specs::inside::StepMarks::row_below))]
 pub fn all_below<'a>(
     alloc: Global,
     row: &[Progress<'a>],
@@ -159,6 +162,7 @@ pub fn all_below<'a>(
     Ok(moved)
 }
 
+/// Whether this is the last step of a rule that selects the element.
 fn does_select(progress: &Progress<'_>) -> bool
     ensures { result ≡ selects_here (marked_step progress.now) }
 {
@@ -168,6 +172,7 @@ fn does_select(progress: &Progress<'_>) -> bool
     }
 }
 
+/// Whether this is the last step of a rule that denies and selects the element.
 fn does_deny(progress: &Progress<'_>) -> bool
     ensures { result ≡ denies_here (marked_step progress.now) }
 {
@@ -178,20 +183,23 @@ fn does_deny(progress: &Progress<'_>) -> bool
     }
 }
 
+/// Whether some rule selects the element.
 pub fn does_any_select(row: &[Progress<'_>]) -> bool
     ensures { result ≡ list_any (λ p. selects_here (marked_step p)) row.now }
 {
     row.iter().any(|progress| does_select(progress))
 }
 
+/// Whether some rule that denies selects the element.
 fn does_any_deny(row: &[Progress<'_>]) -> bool
     ensures { result ≡ list_any (λ p. denies_here (marked_step p)) row.now }
 {
     row.iter().any(|progress| does_deny(progress))
 }
 
-/// The sign of an element: by the rules that select it, where there is one, and else that of its parent.
-#[tactic(auto, using(crate::proofs::Lists::any_map), unfolding(crate::specs::Marks::sign_here))]
+/// The sign of an element, by the row at it: that of the rules that select it, and without one the sign of its parent.
+/// A denial wins over a grant.
+#[tactic(auto, using(crate::proofs::Lists::any_map), unfolding(crate::specs::inside::StepMarks::sign_here))]
 pub fn sign_of(row: &[Progress<'_>], above: Sign) -> Sign
     ensures { result ≡ sign_here (marked_steps row.now) above }
 {

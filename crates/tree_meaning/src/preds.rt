@@ -1,10 +1,10 @@
-//! The predicates of rules, and which of them hold at each element of a document.
+//! Collects the predicates of rules, and finds which of them hold at each element of a document.
 
 ghost use Rattle.std.specs.Prelude.{◌≡◌, ◌++◌, IfOk};
 ghost use Rattle.std.specs.Option.{option_copied};
 ghost use Rattle.predicate_walk.specs.Truths.{preds_in};
-ghost use Rattle.tree_meaning.specs.Marks.{marked_steps};
-ghost use Rattle.tree_meaning.specs.Known.{preds_of, preds_of_step, flags_within};
+ghost use Rattle.tree_meaning.specs.inside.StepMarks.{marked_steps};
+ghost use Rattle.tree_meaning.specs.inside.Known.{preds_of, preds_of_step, flags_within};
 
 use crate::marks::Progress;
 use acl_bits::Flags;
@@ -13,7 +13,7 @@ use acl_outside::NoMemory;
 use predicate_walk::{PredRef, find_truths};
 use std::alloc::{AllocError, Global};
 
-/// Adds the predicates of a step, in order.
+/// Appends the predicates of a step, in order.
 #[tactic(auto, using(crate::proofs::Lists::list_steps))]
 fn add_preds<'a>(preds: &mut Vec<PredRef<'a>>, step: Option<&'a Step>) -> Result<(), AllocError>
     ensures { IfOk result (λ done. preds_in preds.new.items
@@ -42,8 +42,8 @@ pub fn all_preds<'a>(alloc: Global, row: &[Progress<'a>]) -> Result<Vec<PredRef<
     Ok(preds)
 }
 
-/// Which of these predicates hold at an element and at each one inside it.
-#[tactic(auto, unfolding(crate::specs::Known::flags_within))]
+/// Which of these predicates hold at an element and at each one inside it, in document order.
+#[tactic(auto, unfolding(crate::specs::inside::Known::flags_within))]
 pub fn find_flags_of(
     alloc: Global,
     preds: &[PredRef<'_>],
@@ -55,7 +55,7 @@ pub fn find_flags_of(
     Ok(flags)
 }
 
-/// Which of the predicates of all steps do.
+/// The same for the predicates of all steps of a row.
 pub fn find_flags(alloc: Global, row: &[Progress<'_>], root: &Element) -> Result<Flags, NoMemory>
     ensures { IfOk result (λ flags. flags
         ≡ flags_within (preds_of (marked_steps row.now)) root.now) }

@@ -1,12 +1,12 @@
-//! How each element of a document stands in its view, found by one walk in document order. All the memory that writing
-//! the view takes is taken here.
+//! Finds how each element of a document appears in its view, by one walk in document order. All the memory that writing
+//! the view needs is allocated here.
 
 ghost use Rattle.std.specs.Prelude.{◌≡◌, ◌+◌, ◌<◌, ◌||◌, [], ◌++◌, IfOk, OnOk, length, take, drop};
 ghost use Rattle.std.specs.List.{list_any, flat_map};
 ghost use Rattle.acl_model.specs.declared.rule.Sign.TheVariants.{Deny};
-ghost use Rattle.tree_meaning.specs.Known.{StartsWith, preds_of, flags_within, flags_of_item};
-ghost use Rattle.tree_meaning.specs.Marks.{marked_steps, begun_rule};
-ghost use Rattle.tree_meaning.specs.Shows.{is_shown, show_by_sign, with_show, shows_from, shows_of_item};
+ghost use Rattle.tree_meaning.specs.inside.Known.{StartsWith, preds_of, flags_within, flags_of_item};
+ghost use Rattle.tree_meaning.specs.inside.StepMarks.{marked_steps, begun_rule};
+ghost use Rattle.tree_meaning.specs.inside.Shows.{is_shown, show_by_sign, with_show, shows_from, shows_of_item};
 
 use crate::known::Known;
 use crate::marks::{Progress, all_begun, all_below, sign_of};
@@ -15,17 +15,18 @@ use acl_model::{Doc, Element, Item, Rule, Sign};
 use acl_outside::NoMemory;
 use std::alloc::{AllocError, Global};
 
-/// How an element stands in the view.
+/// How an element appears in the view.
 #[derive(Clone, Copy)]
 pub enum Show {
-    /// As it is, with its items as they stand there.
+    /// With its attributes, its name and its texts.
     Whole,
-    /// For what is inside it.
+    /// As a dummy, since something inside it is in the view.
     Dummy,
-    /// Not at all, and nothing inside it.
+    /// Not at all, and neither does anything inside it.
     Absent,
 }
 
+/// How an element of this sign appears; `inside` says whether something inside it does.
 fn show_of(own: Sign, inside: bool) -> Show
     ensures { result ≡ show_by_sign own inside }
 {
@@ -36,6 +37,7 @@ fn show_of(own: Sign, inside: bool) -> Show
     }
 }
 
+/// Whether something of the element is in the view.
 fn does_show(show: Show) -> bool
     ensures { result ≡ is_shown show }
 {
@@ -46,13 +48,15 @@ fn does_show(show: Show) -> bool
     }
 }
 
+/// Whether one of the two is true.
 fn either(first: bool, second: bool) -> bool
     ensures { result ≡ (first || second) }
 {
     first || second
 }
 
-/// Tells how the element at this place of the list stands there. What is inside an absent one falls away.
+/// Settles the entry at index `at`: writes it now that the elements inside are known. If the element is absent, the
+/// entries of the elements inside it are removed.
 fn settle(shows: &mut Vec<Show>, at: usize, show: Show)
     requires { at < length shows.old.items }
     ensures { shows.new.items
@@ -66,7 +70,7 @@ fn settle(shows: &mut Vec<Show>, at: usize, show: Show)
     }
 }
 
-/// Adds how an element and those inside it stand in the view, and answers whether something of it does.
+/// Appends the entries of an element and of those inside it. Returns whether something of the element is in the view.
 #[cycle(shows)]
 #[tactic(auto, using(crate::proofs::KnownLaws::walk_steps))]
 fn find_shows(
@@ -99,6 +103,7 @@ fn find_shows(
     Ok(does_show(show))
 }
 
+/// Does the same for an item of an element of sign `own`.
 #[cycle(shows)]
 #[tactic(auto, using(crate::proofs::ShowLaws::show_item_equations, crate::proofs::KnownLaws::item_flags))]
 fn find_shows_in_item(
@@ -126,7 +131,7 @@ fn find_shows_in_item(
     }
 }
 
-/// How the elements of a document stand in its view, in document order.
+/// The entries of all elements of a document, in document order. None is inside an absent element.
 pub fn find_all_shows(alloc: Global, doc: &Doc, rules: &[Rule]) -> Result<Vec<Show>, NoMemory>
     ensures { IfOk result (λ shows. shows.items
         ≡ shows_from doc.now.root (flat_map begun_rule rules.now) Deny) }

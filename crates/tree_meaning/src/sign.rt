@@ -1,11 +1,11 @@
-//! The sign of one element, by a walk down to its place.
+//! Finds the sign of one element, by a walk down to its place.
 
 ghost use Rattle.std.specs.Prelude.{◌≡◌, IfOk, IfSome, drop, length, option_copied, option_map};
 ghost use Rattle.acl_model.specs.Places.{child, at, element_of};
 ghost use Rattle.acl_model.specs.Decide.{sign};
 ghost use Rattle.predicate_walk.specs.Truths.{preds_in};
-ghost use Rattle.tree_meaning.specs.Known.{StartsWith, preds_of, flags_within, flags_of_item, flags_of_items};
-ghost use Rattle.tree_meaning.specs.Marks.{marked_steps, sign_from, wanted_of, number_behind};
+ghost use Rattle.tree_meaning.specs.inside.Known.{StartsWith, preds_of, flags_within, flags_of_item, flags_of_items};
+ghost use Rattle.tree_meaning.specs.inside.StepMarks.{marked_steps, sign_from, wanted_of, next_child_number};
 
 use crate::known::Known;
 use crate::marks::{Progress, all_begun, all_below, sign_of};
@@ -15,7 +15,7 @@ use acl_outside::NoMemory;
 use predicate_walk::PredRef;
 use std::alloc::{AllocError, Global};
 
-/// The element that an item is, if it is one.
+/// The element of an item, if the item is one.
 #[tactic(auto, using(crate::proofs::SignLaws::element_laws))]
 fn element_in(item: &Item) -> Option<&Element>
     ensures { option_copied result ≡ element_of item.now }
@@ -26,7 +26,7 @@ fn element_in(item: &Item) -> Option<&Element>
     }
 }
 
-/// The element that an item is, where the next one is wanted.
+/// The element of an item, if the item is one and the number that is looked for is 1.
 fn wanted_in(item: &Item, number: u64) -> Option<&Element>
     ensures { option_copied result ≡ wanted_of (element_of item.now) number }
 {
@@ -37,9 +37,9 @@ fn wanted_in(item: &Item, number: u64) -> Option<&Element>
     }
 }
 
-/// The number behind an item, which counts where it is an element.
+/// The number to look for after an item: one less after an element.
 fn number_left(item: &Item, number: u64) -> u64
-    ensures { result ≡ number_behind (element_of item.now) number }
+    ensures { result ≡ next_child_number (element_of item.now) number }
 {
     match element_in(item) {
         Some(_) => number.saturating_sub(1),
@@ -47,7 +47,7 @@ fn number_left(item: &Item, number: u64) -> u64
     }
 }
 
-/// Moves on past the flags of an element and of each one inside it.
+/// Skips the flags of an element and of each one inside it.
 #[cycle(past)]
 #[tactic(auto, using(crate::proofs::KnownLaws::pass_steps))]
 fn pass_element(preds: &[PredRef<'_>], element: &Element, known: &mut Known<'_>)
@@ -63,7 +63,7 @@ fn pass_element(preds: &[PredRef<'_>], element: &Element, known: &mut Known<'_>)
     }
 }
 
-/// Moves on past the flags of the elements of an item.
+/// Skips the flags of the elements of an item.
 #[cycle(past)]
 #[tactic(auto, using(crate::proofs::KnownLaws::item_flags))]
 fn pass_item(preds: &[PredRef<'_>], item: &Item, known: &mut Known<'_>)
@@ -75,7 +75,7 @@ fn pass_item(preds: &[PredRef<'_>], item: &Item, known: &mut Known<'_>)
     }
 }
 
-/// The element child of this number, from 1. The flags of the elements before it are passed.
+/// The element child of this number, from 1. Skips the flags of the elements before it.
 fn child_at<'a>(
     items: &'a [Item],
     number: u64,
@@ -100,7 +100,7 @@ fn child_at<'a>(
     None
 }
 
-/// The sign at a place that is counted from the element on.
+/// The sign at a place that is counted from the element on; `None` where no element has the place.
 fn sign_below(
     alloc: Global,
     row: &[Progress<'_>],
@@ -131,7 +131,7 @@ fn sign_below(
     }
 }
 
-/// The sign of the element at a place; nothing, where no element has the place.
+/// The sign of the element at a place; `None` where no element has the place.
 pub fn sign_at(
     alloc: Global,
     doc: &Doc,

@@ -1,11 +1,11 @@
-//! The authorised view of a document, by one walk over it that carries how far each rule has come.
+//! Makes the authorised view of a document, by one walk that carries the NFA states of the rules.
 
 ghost use Rattle.std.specs.Prelude.{◌≡◌, [], ◌∷◌, IfOk, OnOk, drop, length};
 ghost use Rattle.std.specs.Option.{option_to_list};
 ghost use Rattle.acl_model.specs.View.{view, view_by_sign, with_text};
 ghost use Rattle.acl_model.proofs.ViewEquations.{is_filled};
-ghost use Rattle.tree_meaning.specs.Known.{StartsWith, preds_of, flags_within, flags_of_item};
-ghost use Rattle.tree_meaning.specs.Marks.{marked_steps, view_from, item_view};
+ghost use Rattle.tree_meaning.specs.inside.Known.{StartsWith, preds_of, flags_within, flags_of_item};
+ghost use Rattle.tree_meaning.specs.inside.StepMarks.{marked_steps, view_from, item_view};
 
 use crate::known::Known;
 use crate::marks::{Progress, all_begun, all_below, sign_of};
@@ -15,7 +15,7 @@ use acl_outside::NoMemory;
 use sqlite_items::{Boxed, Items};
 use std::alloc::{AllocError, Global};
 
-/// A text of an element, where the element is granted.
+/// A copy of a text, if its element is granted.
 fn text_in_view(alloc: Global, own: Sign, bytes: &Bytes) -> Result<Option<Item>, AllocError>
     ensures { IfOk result (λ v. option_to_list v ≡ with_text own bytes.now []) }
 {
@@ -25,6 +25,7 @@ fn text_in_view(alloc: Global, own: Sign, bytes: &Bytes) -> Result<Option<Item>,
     }
 }
 
+/// A copy of these attributes.
 #[tactic(auto, using(crate::proofs::Lists::list_steps))]
 fn copy_of(alloc: Global, attributes: &[Bytes]) -> Result<Sequence<Bytes>, AllocError>
     ensures { IfOk result (λ copy. copy ≡ attributes.now) }
@@ -36,6 +37,7 @@ fn copy_of(alloc: Global, attributes: &[Bytes]) -> Result<Sequence<Bytes>, Alloc
     Ok(Sequence::from_vec(copy))
 }
 
+/// A dummy with these items.
 fn dummy(alloc: Global, items: Items<Item>) -> Result<Element, AllocError>
     ensures { IfOk result (λ e. e ≡ record { name = 45 ∷ []; attributes = []; items = items }) }
 {
@@ -46,7 +48,7 @@ fn dummy(alloc: Global, items: Items<Item>) -> Result<Element, AllocError>
     })
 }
 
-/// What an element of this sign leaves in the view, from what its items leave.
+/// The view of an element of this sign, from the items of its view; `None` where nothing is shown.
 fn element_with(
     alloc: Global,
     own: Sign,
@@ -67,6 +69,7 @@ fn element_with(
     }
 }
 
+/// The view of an element, by the row and the sign at its parent.
 #[cycle(view)]
 #[tactic(auto, using(crate::proofs::Lists::list_steps, crate::proofs::ViewLaws::view_from_is, crate::proofs::KnownLaws::walk_steps))]
 fn element_in_view(
@@ -92,6 +95,7 @@ fn element_in_view(
     element_with(alloc, own, element, Items::from_vec(items))
 }
 
+/// The view of an item, by the row and the sign at the element around it.
 #[cycle(view)]
 #[tactic(auto, using(crate::proofs::ViewLaws::item_view_equations, crate::proofs::KnownLaws::item_flags))]
 fn item_in_view(
@@ -116,7 +120,7 @@ fn item_in_view(
     }
 }
 
-/// The authorised view of a document; nothing, where nothing is granted.
+/// The authorised view of a document; `None` where nothing is granted.
 pub fn view_tree(alloc: Global, doc: &Doc, rules: &[Rule]) -> Result<Option<Doc>, NoMemory>
     ensures exact { IfOk result (λ v. v ≡ view doc.now rules.now) }
 {

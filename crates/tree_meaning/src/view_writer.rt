@@ -1,13 +1,13 @@
-//! Writes the view of a document without a second tree: one walk finds how each element stands in the view, and one
-//! writes by that, without memory.
+//! Writes the view of a document without a second tree. One walk finds how each element appears in the view, and one
+//! writes by that, without allocating.
 
 ghost use Rattle.std.specs.Prelude.{◌≡◌, [], OnOk, drop, map, true, false, if◌then◌else◌};
 ghost use Rattle.std.specs.List.{slice_get};
 ghost use Rattle.acl_model.specs.Ascii.{hyphen};
 ghost use Rattle.acl_model.specs.Text.{line, text_of_view};
 ghost use Rattle.acl_model.specs.View.{view};
-ghost use Rattle.acl_outside.specs.Writing.{Writes};
-ghost use Rattle.tree_meaning.specs.Shows.{WritesView, in_turn, shown_start, shown_end, around, written_of, written_of_item};
+ghost use Rattle.acl_outside.specs.WrittenText.{Writes};
+ghost use Rattle.tree_meaning.specs.inside.Shows.{WritesView, in_turn, shown_start, shown_end, around, written_of, written_of_item};
 
 use crate::shows::{Show, find_all_shows};
 use acl_model::{Doc, Element, Item, Rule};
@@ -18,18 +18,19 @@ use std::alloc::Global;
 /// Why a view or an explanation was not written.
 #[derive(Clone, Copy, Debug, PartialEq, Eq)]
 pub enum WriteViewFault {
-    /// There was no memory for what is found of the elements. Nothing was asked of the sink.
+    /// Memory ran out. The sink was not called.
     NoMemory,
-    /// The sink failed. Its count of faults rose with this answer, or stands at its last value.
+    /// The sink failed. Its count of faults rose with this answer, or is at its greatest value.
     Failed,
 }
 
-/// How the elements that are still to come stand in the view.
+/// The entries of the elements that are still to come.
 #[derive(Drop)]
 struct Shows<'a> {
     left: &'a [Show],
 }
 
+/// Takes the next entry off the list.
 fn next_show(shows: &mut Shows<'_>) -> Option<Show>
     ensures show { result ≡ slice_get shows.old.left.now 0 }
     ensures left { shows.new.left.now ≡ drop 1 shows.old.left.now }
@@ -44,6 +45,7 @@ fn next_show(shows: &mut Shows<'_>) -> Option<Show>
     }
 }
 
+/// Writes the start of an element that is whole, or of a dummy.
 fn write_shown_start<K: Sink>(element: &Element, whole: bool, sink: &mut K) -> Result<(), Failed>
     ensures { Writes K.written K.missed K.settled K.faults result sink.old sink.new
         (shown_start whole element.now.attributes element.now.name) }
@@ -58,6 +60,7 @@ fn write_shown_start<K: Sink>(element: &Element, whole: bool, sink: &mut K) -> R
     }
 }
 
+/// Writes the end of an element that is whole, or of a dummy.
 fn write_shown_end<K: Sink>(element: &Element, whole: bool, sink: &mut K) -> Result<(), Failed>
     ensures { Writes K.written K.missed K.settled K.faults result sink.old sink.new
         (shown_end whole element.now.name) }
@@ -68,7 +71,7 @@ fn write_shown_end<K: Sink>(element: &Element, whole: bool, sink: &mut K) -> Res
     }
 }
 
-/// Writes what the view has of an element.
+/// Writes what the view has of an element, by the next entry and those of the elements inside it.
 #[cycle(view)]
 fn write_element<K: Sink>(
     element: &Element,
@@ -88,7 +91,7 @@ fn write_element<K: Sink>(
     }
 }
 
-/// Writes an element that is whole, or a dummy, with what is inside it.
+/// Writes an element that is whole, or a dummy, and what is inside it.
 #[cycle(view)]
 fn write_around<K: Sink>(
     element: &Element,
@@ -107,6 +110,7 @@ fn write_around<K: Sink>(
     write_shown_end(element, whole, sink)
 }
 
+/// Writes what the view has of the items of an element.
 #[cycle(view)]
 fn write_items<K: Sink>(
     element: &Element,
@@ -125,6 +129,7 @@ fn write_items<K: Sink>(
     Ok(())
 }
 
+/// Writes what the view has of an item of an element that is whole, or a dummy.
 #[cycle(view)]
 fn write_item<K: Sink>(
     item: &Item,
@@ -143,6 +148,7 @@ fn write_item<K: Sink>(
     }
 }
 
+/// Writes a text of an element that is whole, and nothing for a dummy.
 fn write_shown_text<K: Sink>(bytes: &[u8], whole: bool, sink: &mut K) -> Result<(), Failed>
     ensures { Writes K.written K.missed K.settled K.faults result sink.old sink.new
         (if whole then line hyphen bytes.now else []) }
@@ -153,6 +159,7 @@ fn write_shown_text<K: Sink>(bytes: &[u8], whole: bool, sink: &mut K) -> Result<
     }
 }
 
+/// Writes the view by the list of all entries.
 fn write_shown<K: Sink>(doc: &Doc, shows: &[Show], sink: &mut K) -> Result<(), Failed>
     ensures { Writes K.written K.missed K.settled K.faults result sink.old sink.new
         (written_of doc.now.root shows.now).text }
@@ -161,8 +168,8 @@ fn write_shown<K: Sink>(doc: &Doc, shows: &[Show], sink: &mut K) -> Result<(), F
     write_element(&doc.root, &mut shows, sink)
 }
 
-/// Writes the view of a document. All memory is taken before the first byte, and no second tree is made. Where the sink
-/// fails, a front part was written, and nothing after the failure.
+/// Writes the view of a document. All memory is allocated before the first byte is written, and no second tree is made.
+/// If the sink fails, a prefix was written, and nothing after the failure.
 pub fn write_view<K: Sink>(
     alloc: Global,
     doc: &Doc,

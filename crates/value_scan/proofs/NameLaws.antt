@@ -1,4 +1,4 @@
--- One pass over a raw attribute's name says whether it is the name, and where the type begins.
+-- One pass over a raw attribute decides whether it has the name, and finds what follows the name.
 use Rattle.std.proofs.Common.{◌≡◌, ℕ, ◌+◌, ◌<◌, Bool, true, false, not, nat_eq, ◌&&◌, Option, Some, None, List, [], ◌∷◌, length, take, drop, refl, ap, sym, ◌∙◌, arith, if◌then◌else◌, drop-cons, suc}
 use Rattle.std.specs.List.{before_first, after_first, position_or_len}
 use Rattle.std.specs.Option.{option_map_or}
@@ -8,24 +8,24 @@ use Rattle.acl_model.specs.Values.{is_space, implied}
 use Rattle.acl_model.specs.declared.path.Cmp.{Cmp}
 use Rattle.value_scan.specs.Attributes.{after_name, attribute_is_enough, typed_is_enough}
 
--- Another byte than a space stands before the first space.
+-- A byte that isn't a space is before the first space.
 before-other : (b : ℕ) (raw : List ℕ) → is_space b ≡ false
     → before_first is_space (b ∷ raw) ≡ b ∷ before_first is_space raw
 before-other b raw other =
     let one : 1 + position_or_len is_space raw ≡ suc (position_or_len is_space raw) = omega arith in
     rw (other, one) refl
 
--- and what follows the space follows it too
+-- such a byte doesn't change what follows the first space
 after-other : (b : ℕ) (raw : List ℕ) → is_space b ≡ false → after_first is_space (b ∷ raw) ≡ after_first is_space raw
 after-other b raw other =
     let one : 1 + position_or_len is_space raw + 1 ≡ suc (position_or_len is_space raw + 1) = omega arith in
     rw (other, one) refl
 
--- The name is the attribute's, and what follows its space passes the test.
+-- The attribute has the name, and what follows its first space passes the test.
 abbrev has_name : (List ℕ → Bool) → List ℕ → List ℕ → Bool
 has_name test name raw = pointwise nat_eq (before_first is_space raw) name && test (after_first is_space raw)
 
--- the same by one pass
+-- the same, computed in one pass
 abbrev passes_after : (List ℕ → Bool) → List ℕ → List ℕ → Bool
 passes_after test name raw = option_map_or test (after_name name raw) false
 
@@ -59,7 +59,7 @@ and_assoc : (a b c : Bool) → ((a && b) && c) ≡ (a && (b && c))
 and_assoc true b c = refl
 and_assoc false b c = refl
 
--- So an attribute is enough where one pass finds its name, and its type and value are enough.
+-- So an attribute is enough exactly where one pass finds its name, and its type and value are enough.
 attribute_is : (name : List ℕ) (cmp : Option Cmp) (raw : List ℕ)
     → attribute_is_enough name cmp raw ≡ option_map_or (typed_is_enough cmp) (after_name name raw) false
 attribute_is name cmp raw =
@@ -68,19 +68,19 @@ attribute_is name cmp raw =
     (is_enough cmp (after_first is_space (after_first is_space raw)))
     ∙ name_is (typed_is_enough cmp) name raw
 
--- the name is found
+-- the attribute has the name
 pub attribute_found : (name : List ℕ) (cmp : Option Cmp) (raw typed : List ℕ) → after_name name raw ≡ Some typed
     → typed_is_enough cmp typed ≡ attribute_is_enough name cmp raw
 attribute_found name cmp raw typed found =
     sym (attribute_is name cmp raw ∙ ap (λ o. option_map_or (typed_is_enough cmp) o false) found)
 
--- another name is found
+-- the attribute has another name
 pub attribute_other : (name : List ℕ) (cmp : Option Cmp) (raw : List ℕ) → after_name name raw ≡ None
     → false ≡ attribute_is_enough name cmp raw
 attribute_other name cmp raw other =
     sym (attribute_is name cmp raw ∙ ap (λ o. option_map_or (typed_is_enough cmp) o false) other)
 
--- A name of which bytes are left is not found where the attribute has ended.
+-- A name is not found where the attribute ends within it.
 pub after_name-short : (name rest : List ℕ) (i : ℕ) → i < length name → length rest < 1
     → after_name (drop i name) rest ≡ None
 after_name-short name [] i inside short = rw (drop-cons name i 0 inside) refl

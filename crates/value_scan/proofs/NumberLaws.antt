@@ -1,4 +1,4 @@
--- The numeral after the last byte of a value has the whole number that acl_model says the value is.
+-- The numeral after the last byte of a value has the whole number that `acl_model` defines for the value.
 use Rattle.std.proofs.Common.{◌≡◌, ℕ, ℤ, pos, suc, zero, ◌+◌, ◌-◌, ◌*◌, ◌^◌, ◌<◌, ◌≤◌, Bool, true, false, nat_eq, nat_le, nat_lt, ◌&&◌, Option, Some, None, List, [], ◌∷◌, length, refl, ap, sym, ◌∙◌, subst, add-one, inl, inr, ◌⊎◌, arith, if◌then◌else◌, drop-cons}
 use Rattle.std.proofs.Math.Nat.{pow-suc, pow-le-pow_right}
 use Rattle.std.proofs.lemmas.Bool.Decides.{nat_tests}
@@ -10,7 +10,7 @@ use Rattle.acl_model.specs.Numbers.{number_of_digits, negative, whole}
 use Rattle.value_scan.specs.Numerals.{leading_digit, numeral_after_all, signed, number_of}
 use Rattle.value_scan.specs.declared.numeral.Numeral.TheVariants.{Start, Minus, Digits, Unfit}
 
--- What fits no number goes on to fit none.
+-- Once a numeral is Unfit, it stays so.
 pub unfit_after : (bytes : List ℕ) → numeral_after_all Unfit bytes ≡ Unfit
 unfit_after [] = refl
 unfit_after (b ∷ bytes) = unfit_after bytes
@@ -19,7 +19,7 @@ unfit_stays : (bytes : List ℕ) → number_of (numeral_after_all Unfit bytes) �
 unfit_stays [] = refl
 unfit_stays (b ∷ bytes) = unfit_stays bytes
 
--- the number that further digits make, where there are at most 18 in all
+-- the number after further digits, where there are at most 18 digits together
 abbrev rest_of_number : Bool → ℕ → ℕ → List ℕ → Option ℤ
 rest_of_number minus count number ds =
     if list_all is_ascii_digit ds && nat_le (count + length ds) 18 then Some
@@ -53,7 +53,7 @@ is_not_at_most a b less = grind (arith, nat_tests)
 is_at_most : (a b : ℕ) → a ≤ b → nat_le a b ≡ true
 is_at_most a b less = grind (arith, nat_tests)
 
--- ten times a number of so many digits, and a digit, has one digit more
+-- appending a digit to a number makes it longer by one digit
 one_more_digit : (number count d : ℕ) → number < 10 ^ count → d < 10 → number * 10 + d < 10 ^ suc count
 one_more_digit number count d small digit =
     let power : 10 ^ suc count ≡ 10 ^ count * 10 = pow-suc 10 count in
@@ -68,7 +68,7 @@ too_many minus ds total number many =
     rw (is_not_at_most total 18 many)
     (ap (λ t. if t then Some (signed minus number) else None) (and_false (list_all is_ascii_digit ds)))
 
--- the count is full, and a digit more fits no number
+-- after 18 digits, one more digit gives no number
 digit_too_many : (d : ℕ) (ds : List ℕ) (minus : Bool) (count number : ℕ) → is_ascii_digit d ≡ true → 18 ≤ count
     → number_of (numeral_after_all (Digits minus count number) (d ∷ ds)) ≡ rest_of_number minus count number (d ∷ ds)
 digit_too_many d ds minus count number digit full =
@@ -77,7 +77,7 @@ digit_too_many d ds minus count number digit full =
     (too_many minus ds (count + length (d ∷ ds)) (digits_value_after 10 (number * 10 + digit_value d) ds)
     (omega (arith, full))))
 
--- one digit more, and what follows it
+-- the numeral after further bytes has the number that they write
 abbrev Follows : List ℕ → Type 0
 Follows ds = (minus : Bool) (count number : ℕ) → count ≤ 18 → number < 10 ^ count
     → number_of (numeral_after_all (Digits minus count number) ds) ≡ rest_of_number minus count number ds
@@ -119,7 +119,7 @@ digits_follow [] minus count number few small =
 digits_follow (d ∷ ds) minus count number few small =
     digit_follows d ds minus count number (is_ascii_digit d) (digits_follow ds) refl (inside_or_past count 18) small
 
--- the same for all the digits of a number
+-- the same, where the bytes are all the digits of a number
 all_digits : (minus all : Bool) (n v w : ℕ) → v ≡ w
     → (if all && nat_le (1 + n) 18 then Some (signed minus v) else None) ≡ option_map (λ m. signed minus m)
     (if (all && nat_le 1 (suc n)) && nat_le (suc n) 18 then Some w else None)
@@ -154,7 +154,7 @@ after_minus : (bs : List ℕ) → number_of (numeral_after_all Minus bs) ≡ opt
 after_minus [] = refl
 after_minus (b ∷ bs) = first_digit_is true b bs
 
--- After its last byte the numeral has the whole number that a value is.
+-- After the last byte of a value, the numeral has the whole number of the value.
 pub whole_is : (bytes : List ℕ) → number_of (numeral_after_all Start bytes) ≡ whole bytes
 whole_is [] = refl
 whole_is (b ∷ bs) =
@@ -163,12 +163,12 @@ whole_is (b ∷ bs) =
     (if t then option_map negative (number_of_digits bs) else option_map pos (number_of_digits (b ∷ bs))))
     [ true ↦ after_minus bs | false ↦ first_digit_is false b bs ]
 
--- more than 18 digits are no number
+-- more than 18 digits are not a number
 no_digits : (ds : List ℕ) → 18 < length ds → number_of_digits ds ≡ None
 no_digits ds many = rw
     (is_not_at_most (length ds) 18 many, and_false (list_all is_ascii_digit ds && nat_le 1 (length ds))) refl
 
--- A longer value than 19 bytes is no whole number.
+-- A value longer than 19 bytes is not a whole number.
 pub whole-long : (bytes : List ℕ) → 19 < length bytes → whole bytes ≡ None
 whole-long [] long = absurd (omega arith)
 whole-long (b ∷ bs) long =

@@ -1,4 +1,4 @@
--- What is known after the last byte of a value decides the comparison, however the value was cut.
+-- The progress after the last byte of a value decides the comparison, however the value was cut.
 use Rattle.std.proofs.Common.{◌≡◌, ℕ, suc, zero, ◌+◌, ◌<◌, ◌≤◌, Bool, true, false, not, nat_eq, nat_le, nat_lt, ◌&&◌, int_lt, int_le, Option, Some, None, List, [], ◌∷◌, ◌++◌, length, get_or, drop, drop-cons, refl, ap, sym, ◌∙◌, inl, inr, ◌⊎◌, arith, add-one, if◌then◌else◌}
 use Rattle.std.proofs.lemmas.Bool.Decides.{nat_tests}
 use Rattle.std.proofs.lemmas.Bool.{false≢true}
@@ -14,7 +14,7 @@ use Rattle.acl_model.specs.declared.path.Op.TheVariants.{Eq, Ne, Lt, Le, Gt, Ge}
 use Rattle.acl_model.specs.declared.path.Operand.{Operand}
 use Rattle.acl_model.specs.declared.path.Operand.TheVariants.{Text, Number, User}
 use Rattle.value_scan.specs.Numerals.{numeral_after_all, number_of}
-use Rattle.value_scan.specs.Progress.{begun, matched_after, fed_byte, fed, is_all_matched, is_equal, does_stand, is_satisfied, is_settled}
+use Rattle.value_scan.specs.Progress.{begun, matched_after, fed_byte, fed, is_all_matched, is_equal, satisfies_so_far, is_satisfied, is_settled}
 use Rattle.value_scan.specs.declared.numeral.Numeral.{Numeral}
 use Rattle.value_scan.specs.declared.numeral.Numeral.TheVariants.{Start, Minus, Digits, Unfit}
 use Rattle.value_scan.specs.declared.progress.Progress.{Progress}
@@ -22,7 +22,7 @@ use Rattle.value_scan.proofs.NumberLaws.{whole_is, inside_or_past, is_below, is_
 
 -- ---- pieces
 
--- Two pieces are fed one after the other.
+-- Feeding two pieces is feeding one and then the other.
 pub fed-append : (operand : Operand) (progress : Progress) (first second : List ℕ)
     → fed operand progress (first ++ second) ≡ fed operand (fed operand progress first) second
 fed-append operand progress [] second = refl
@@ -30,7 +30,7 @@ fed-append operand progress (b ∷ first) second = fed-append operand (fed_byte 
 
 -- ---- a settled progress
 
--- no bytes matched, and no number
+-- the settled progress: the value differs from the literal, and is not a number
 abbrev settled : Progress
 settled = record { matched = None; numeral = Unfit }
 
@@ -48,7 +48,7 @@ parts_stay operand None Minus bytes is = absurd (false≢true is)
 parts_stay operand None (Digits minus count number) bytes is = absurd (false≢true is)
 parts_stay operand None Unfit bytes is = settled-fed operand bytes
 
--- A settled progress stays what it is.
+-- A settled progress never changes.
 pub fed-settled : (operand : Operand) (progress : Progress) (bytes : List ℕ) → is_settled progress ≡ true
     → fed operand progress bytes ≡ progress
 fed-settled operand progress bytes is = parts_stay operand progress.matched progress.numeral bytes is
@@ -57,13 +57,13 @@ pub ruleset feed_steps = (drop-cons, fed-settled)
 
 -- ---- numbers
 
--- The numeral goes its own way.
+-- The numeral of a progress doesn't depend on what is matched of a literal.
 numeral_of_fed : (operand : Operand) (progress : Progress) (bytes : List ℕ)
     → (fed operand progress bytes).numeral ≡ numeral_after_all progress.numeral bytes
 numeral_of_fed operand progress [] = refl
 numeral_of_fed operand progress (b ∷ bytes) = numeral_of_fed operand (fed_byte operand progress b) bytes
 
--- After the last byte of a value it has the number that the value is.
+-- After the last byte of a value, its number is the number of the value.
 number_is : (operand : Operand) (bytes : List ℕ) → number_of (fed operand begun bytes).numeral ≡ whole bytes
 number_is operand bytes = ap number_of (numeral_of_fed operand begun bytes) ∙ whole_is bytes
 
@@ -74,7 +74,7 @@ abbrev matched_all : List ℕ → Option ℕ → List ℕ → Option ℕ
 matched_all literal matched [] = matched
 matched_all literal matched (b ∷ bs) = matched_all literal (matched_after (Text literal) matched b) bs
 
--- What differs once is never all matched.
+-- A value that differed once never matches the whole literal.
 none_matched : (literal bytes : List ℕ) → is_all_matched literal (matched_all literal None bytes) ≡ false
 none_matched literal [] = refl
 none_matched literal (b ∷ bytes) = none_matched literal bytes
@@ -88,7 +88,7 @@ is_unequal a b less = grind (arith, nat_tests)
 is_same : (a b : ℕ) → a ≤ b → b ≤ a → nat_eq a b ≡ true
 is_same a b low high = grind (arith, nat_tests)
 
--- What is still to be matched is the literal from there on.
+-- Where `count` bytes are matched, the rest of the value is matched exactly where it is the rest of the literal.
 abbrev Matches : List ℕ → List ℕ → Type 0
 Matches literal bytes = (count : ℕ) → count ≤ length literal
     → is_all_matched literal (matched_all literal (Some count) bytes) ≡ pointwise nat_eq bytes (drop count literal)
@@ -123,7 +123,7 @@ all_match literal [] count within = ends_inside literal count within (inside_or_
 all_match literal (b ∷ bytes) count within =
     one_more literal b bytes count (all_match literal bytes) within (inside_or_past count (length literal))
 
--- What is matched of a literal goes its own way, and so for the user.
+-- What is matched of a literal or the user doesn't depend on the numeral.
 matched_of_text : (literal : List ℕ) (progress : Progress) (bytes : List ℕ)
     → (fed (Text literal) progress bytes).matched ≡ matched_all literal progress.matched bytes
 matched_of_text literal progress [] = refl
@@ -144,7 +144,7 @@ equals_is (User literal) bytes = ap (is_all_matched literal) (matched_of_user li
     ∙ all_match literal bytes 0 (omega arith)
 
 stands_is : (op : Op) (operand : Operand) (bytes : List ℕ)
-    → does_stand op operand (fed operand begun bytes) ≡ satisfies op operand bytes
+    → satisfies_so_far op operand (fed operand begun bytes) ≡ satisfies op operand bytes
 stands_is Eq operand bytes = equals_is operand bytes
 stands_is Ne operand bytes = ap not (equals_is operand bytes)
 stands_is Lt operand bytes = ap (λ n. are_ordered int_lt n (operand_number operand)) (number_is operand bytes)
@@ -152,7 +152,7 @@ stands_is Le operand bytes = ap (λ n. are_ordered int_le n (operand_number oper
 stands_is Gt operand bytes = ap (are_ordered int_lt (operand_number operand)) (number_is operand bytes)
 stands_is Ge operand bytes = ap (are_ordered int_le (operand_number operand)) (number_is operand bytes)
 
--- After its last byte a value satisfies the comparison where acl_model says so.
+-- After the last byte, the result is that of `acl_model` for the value.
 pub satisfied_is : (cmp : Cmp) (value : List ℕ)
     → is_satisfied cmp (fed cmp.operand begun value) ≡ satisfies cmp.op cmp.operand value
 satisfied_is cmp value = stands_is cmp.op cmp.operand value

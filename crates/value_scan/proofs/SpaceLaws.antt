@@ -1,4 +1,4 @@
--- One cut at the first space gives what stands before it and after it.
+-- One cut at the first space gives what comes before and after it.
 use Rattle.std.proofs.Common.{◌≡◌, ℕ, suc, zero, ◌+◌, ◌<◌, ◌≤◌, Some, None, List, [], length, get_or, ap, sym, subst, ◌∙◌, inl, inr, ◌⊎◌, arith}
 use Rattle.std.proofs.lemmas.Bool.{true≢false}
 use Rattle.std.proofs.lemmas.List.{take_all, drop_all}
@@ -16,7 +16,7 @@ inside_or_past zero (suc n) = inl (omega arith)
 inside_or_past (suc i) (suc n) =
     elim (inside_or_past i n) [ inl h ↦ inl (omega (arith, h)) | inr h ↦ inr (omega (arith, h)) ]
 
--- no byte before the first space is one
+-- no byte before the first space is a space
 none_before : (bytes : List ℕ) (k : ℕ) → k < position_or_len is_space bytes → get_or bytes k 0 ≡ 32 → ⊥
 none_before bytes k before is = true≢false (sym (ap is_space is) ∙ fails_before_first is_space bytes k 0 before)
 
@@ -27,7 +27,7 @@ cut_where_found bytes inside =
     cut_at-found 32 bytes (position_or_len is_space bytes) (none_before bytes) inside
     (eqb-true (get_or bytes (position_or_len is_space bytes) 0) 32 (passes_at_first is_space bytes 0 inside))
 
--- there is none to cut at, where there is no space
+-- the cut, where there is no space
 cut_where_none : (bytes : List ℕ) → length bytes ≤ position_or_len is_space bytes → cut_at 32 bytes ≡ None
 cut_where_none bytes past = cut_at-none 32 bytes (λ k h. none_before bytes k (omega (arith, h, past)))
 
@@ -37,7 +37,7 @@ none_is_not_some x h = subst (λ o. MatchOption o (Unit {0}) (λ _. ⊥)) h tt
 same_within : {A : Type 0} (x y : A) → Some x ≡ Some y → x ≡ y
 same_within x y h = ap (λ o. unwrap_or o x) h
 
--- What a cut gives stands before and after the first space.
+-- The two parts of a cut are what comes before and after the first space.
 same_parts : (bytes : List ℕ) (p : List ℕ × List ℕ) → cut_at 32 bytes ≡ Some p
     → (p.0 ≡ before_first is_space bytes) × (p.1 ≡ after_first is_space bytes)
 same_parts bytes p is = elim (inside_or_past (position_or_len is_space bytes) (length bytes)) [
@@ -56,7 +56,7 @@ pub after_of_cut : (bytes before after : List ℕ) → cut_at 32 bytes ≡ Some 
     → after ≡ after_first is_space bytes
 after_of_cut bytes before after is = (same_parts bytes (before, after) is).1
 
--- Without a cut all stands before, and nothing after.
+-- Without a space, all bytes come before it, and none after it.
 pub before_without_cut : (bytes : List ℕ) → cut_at 32 bytes ≡ None → bytes ≡ before_first is_space bytes
 before_without_cut bytes none = elim (inside_or_past (position_or_len is_space bytes) (length bytes)) [
   | inl inside ↦ absurd

@@ -1,4 +1,4 @@
-//! Which raw attributes have a name and a value that is enough.
+//! Which raw attributes have a given name and a value that satisfies a comparison.
 
 ghost use Rattle.std.specs.Prelude.{◌≡◌, option_copied};
 ghost use Rattle.std.specs.List.{before_first, after_first, list_any};
@@ -8,8 +8,8 @@ ghost use Rattle.value_scan.specs.Attributes.{after_name, attribute_is_enough, t
 use crate::comparison::is_enough;
 use acl_model::{Bytes, Cmp, cut};
 
-/// What follows the name and its space, where the raw attribute has this name. No byte is read
-/// after the first that differs.
+/// What follows the name and its space, or `None` where the raw attribute has another name. No byte is read after the
+/// first that differs.
 #[tactic(auto, using(crate::proofs::NameLaws::name_steps))]
 fn strip_name<'a>(name: &[u8], raw: &'a [u8]) -> Option<&'a [u8]>
     ensures { option_copied result ≡ after_name name.now raw.now }
@@ -31,7 +31,7 @@ fn strip_name<'a>(name: &[u8], raw: &'a [u8]) -> Option<&'a [u8]>
     }
 }
 
-/// What stands before the first space and after it: all and nothing, where there is none.
+/// What comes before and after the first space. Without a space, this is all bytes and no bytes.
 #[tactic(auto, using(crate::proofs::SpaceLaws::space_laws))]
 fn at_space(bytes: &[u8]) -> (&[u8], &[u8])
     ensures before { result.0.now ≡ before_first is_space bytes.now }
@@ -43,7 +43,8 @@ fn at_space(bytes: &[u8]) -> (&[u8], &[u8])
     }
 }
 
-/// Whether a type and a value, as a raw attribute has them after its name, are enough.
+/// Whether a type and a value, which follow the name of a raw attribute, are enough: the type isn't IMPLIED, and the
+/// value satisfies the comparison.
 fn is_typed_enough(cmp: &Option<Cmp>, typed: &[u8]) -> bool
     ensures { result ≡ typed_is_enough cmp.now typed.now }
 {
@@ -51,7 +52,8 @@ fn is_typed_enough(cmp: &Option<Cmp>, typed: &[u8]) -> bool
     kind != b"IMPLIED".as_slice() && is_enough(cmp, value)
 }
 
-/// Whether a raw attribute has the name, and a value that is enough.
+/// Whether a raw attribute has the name, and a value that satisfies the comparison. Without a comparison any value
+/// does.
 #[tactic(auto, using(crate::proofs::NameLaws::attribute_laws))]
 pub fn is_attribute_enough(name: &[u8], cmp: &Option<Cmp>, raw: &[u8]) -> bool
     ensures { result ≡ attribute_is_enough name.now cmp.now raw.now }
@@ -62,7 +64,7 @@ pub fn is_attribute_enough(name: &[u8], cmp: &Option<Cmp>, raw: &[u8]) -> bool
     }
 }
 
-/// Whether one of the attributes has the name and a value that is enough.
+/// Whether one of the attributes has the name, and a value that satisfies the comparison.
 pub fn is_any_attribute_enough(name: &[u8], cmp: &Option<Cmp>, attributes: &[Bytes]) -> bool
     ensures { result ≡ list_any (attribute_is_enough name.now cmp.now) attributes.now }
 {

@@ -1,4 +1,4 @@
-//! Whole values compared with operands.
+//! Compares whole values with operands.
 
 ghost use Rattle.std.specs.Prelude.{◌≡◌, int_lt, int_le};
 ghost use Rattle.acl_model.specs.Comparisons.{equals, operand_number, are_ordered, satisfies};
@@ -66,7 +66,7 @@ pub fn does_satisfy(cmp: &Cmp, value: &[u8]) -> bool
     }
 }
 
-/// Whether the value is enough: any is without a comparison.
+/// Whether the value satisfies the comparison. Without a comparison any value does.
 pub fn is_enough(cmp: &Option<Cmp>, value: &[u8]) -> bool
     ensures { result ≡ is_enough cmp.now value.now }
 {

@@ -1,5 +1,4 @@
-//! Laws of the incremental form: functions that do nothing, each of whose clauses holds for all
-//! values that it names.
+//! Laws of values that come in pieces. The functions do nothing: their contracts are the laws.
 
 ghost use Rattle.std.specs.Prelude.{◌≡◌, ℕ, true, List, ◌++◌};
 ghost use Rattle.acl_model.specs.Comparisons.{satisfies};
@@ -8,9 +7,8 @@ ghost use Rattle.acl_model.specs.declared.path.Operand.{Operand};
 ghost use Rattle.value_scan.specs.Progress.{begun, fed, is_satisfied, is_settled};
 ghost use Rattle.value_scan.specs.declared.progress.Progress.{Progress};
 
-/// However a value is cut, the same is known of it: feeding two pieces is feeding what they join
-/// to. After its last byte that is whether the value satisfies the comparison. A settled progress
-/// stays what it is.
+/// A value may be cut into pieces anywhere: feeding two pieces has the same result as feeding both at once. After the
+/// last byte, `is_satisfied` says whether the value satisfies the comparison. A settled progress never changes.
 pub fn values_may_come_in_pieces()
     ensures pieces { (operand : Operand) (progress : Progress) (first second : List ℕ)
         → fed operand progress (first ++ second)

@@ -1,5 +1,4 @@
-//! Whether a value satisfies a comparison, whole or in pieces. A value is refused at its first
-//! bytes where they decide.
+//! Decides whether a value satisfies a comparison. The value may be whole or come in pieces.
 #![tactic(auto)]
 
 mod attributes;

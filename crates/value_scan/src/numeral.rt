@@ -1,4 +1,4 @@
-//! Whole numbers in decimal, read byte by byte and no further than they may go on.
+//! Whole numbers in decimal, read byte by byte up to the first byte that no number has.
 
 ghost use Rattle.std.specs.Prelude.{◌≡◌};
 ghost use Rattle.acl_model.specs.Numbers.{whole};
@@ -7,24 +7,24 @@ ghost use Rattle.value_scan.specs.Numerals.{numeral_after_all, number_of};
 
 use acl_model::limits::MOST_DIGITS;
 
-/// The whole number that the bytes so far write.
+/// The whole number that the bytes read so far write.
 #[derive(Debug, Clone, Copy)]
 pub enum Numeral {
     /// No byte yet.
     Start,
     /// A `-` alone.
     Minus,
-    /// 1 to 18 digits, perhaps after a `-`.
+    /// 1 to 18 digits, with or without a `-` before them.
     Digits {
         negative: bool,
         count: u8,
         number: u64,
     },
-    /// Something else, whatever follows.
+    /// Not the beginning of a number.
     Unfit,
 }
 
-/// The numeral after its first digit.
+/// The numeral after its first digit; `Unfit` where the byte isn't a digit.
 fn first_digit(negative: bool, byte: u8) -> Numeral
     ensures { result ≡ leading_digit negative byte }
 {
@@ -69,7 +69,7 @@ pub fn next_numeral(numeral: Numeral, byte: u8) -> Numeral
     }
 }
 
-/// The whole number that a value is, if it is one.
+/// The whole number of a numeral, or `None` where it isn't a number.
 pub fn number_in(numeral: Numeral) -> Option<i64>
     ensures { result ≡ number_of numeral }
 {
@@ -89,7 +89,7 @@ pub fn number_in(numeral: Numeral) -> Option<i64>
     }
 }
 
-/// The numeral after all bytes. It reads none after the first that fits no number.
+/// The numeral after all bytes. Nothing is read after the first byte that no number can have.
 #[tactic(auto, using(crate::proofs::NumberLaws::numeral_steps))]
 fn numeral_of(bytes: &[u8]) -> Numeral
     ensures { result ≡ numeral_after_all Numeral.Start bytes.now }
@@ -104,7 +104,7 @@ fn numeral_of(bytes: &[u8]) -> Numeral
     numeral
 }
 
-/// The whole number that the bytes write, if they write one. Of more than 19 bytes none is read.
+/// The whole number that the bytes write, or `None` where they don't write one. More than 19 bytes are rejected unread.
 #[tactic(auto, using(crate::proofs::NumberLaws::number_laws))]
 pub fn whole_number(bytes: &[u8]) -> Option<i64>
     ensures { result ≡ whole bytes.now }

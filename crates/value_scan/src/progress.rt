@@ -1,4 +1,4 @@
-//! A value that comes in pieces, compared with an operand without being joined.
+//! Compares a value that comes in pieces with an operand, without joining the pieces.
 
 ghost use Rattle.std.specs.Prelude.{◌≡◌, ◌+◌, ◌<◌, ◌^◌, IsTrue};
 ghost use Rattle.value_scan.specs.Progress.{has_at, matched_after, begun, fed_byte, fed};
@@ -8,16 +8,17 @@ use crate::comparison::{is_at_most, is_below, number_of_operand};
 use crate::numeral::{Numeral, next_numeral, number_in};
 use acl_model::{Cmp, Op, Operand};
 
-/// What is known of a value from its bytes so far. Of fixed size; it holds no reference.
+/// What is known of a value from the bytes read so far. It has a fixed size and contains no reference. It is *settled*
+/// where no further byte can change it.
 #[derive(Clone, Copy, Debug)]
 pub struct Progress {
-    /// How many bytes of the literal the value has matched, or `None` once it differs or is longer.
+    /// How many bytes of the literal were matched, or `None` once the value differs from it or is longer.
     pub matched: Option<usize>,
-    /// The whole number that its bytes write.
+    /// The whole number that the bytes write.
     pub numeral: Numeral,
 }
 
-/// Before the first byte of a value.
+/// The progress before the first byte of a value.
 pub fn begun() -> Progress
     ensures { result ≡ begun }
 {
@@ -51,7 +52,7 @@ fn next_matched(operand: &Operand, matched: Option<usize>, byte: u8) -> Option<u
     }
 }
 
-/// What is known after one more byte.
+/// The progress after one more byte.
 fn feed_byte(progress: Progress, operand: &Operand, byte: u8) -> Progress
     ensures { result ≡ fed_byte operand.now progress byte }
 {
@@ -61,7 +62,7 @@ fn feed_byte(progress: Progress, operand: &Operand, byte: u8) -> Progress
     }
 }
 
-/// Takes further bytes of the value. It reads none once the progress is settled.
+/// The progress after further bytes of the value. No byte is read once it is settled.
 #[tactic(auto, using(crate::proofs::ProgressLaws::feed_steps))]
 pub fn feed(progress: Progress, operand: &Operand, bytes: &[u8]) -> Progress
     ensures { result ≡ fed operand.now progress bytes.now }
@@ -115,7 +116,7 @@ pub fn is_satisfied(cmp: &Cmp, progress: Progress) -> bool
     }
 }
 
-/// Whether no further byte can change anything: neither a literal nor a number is left.
+/// Whether no further byte can change the progress: the value differs from the literal, and isn't a number.
 pub fn is_settled(progress: Progress) -> bool
     ensures { result ≡ is_settled progress }
 {

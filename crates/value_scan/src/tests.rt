@@ -1,5 +1,5 @@
-//! Values, operands and attributes by this project's profile of XPath 1.0, 3.4, each answer worked
-//! out by hand.
+//! Values, operands and attributes, compared by this project's profile of XPath 1.0, 3.4. All answers are worked out by
+//! hand.
 
 use super::*;
 use acl_model::{Bytes, Cmp, Op, Operand};
@@ -24,8 +24,8 @@ fn with_text(alloc: Global, op: Op, text: &str) -> Result<Cmp, Fail> {
     })
 }
 
-/// Asserts what a comparison gives of the whole value, of the value cut in two at each place, and
-/// of its bytes one by one.
+/// Asserts the result of a comparison for the whole value, for the value cut in two at each index, and for its bytes
+/// fed one by one.
 fn assert_answer(rt: &impl Abort, cmp: &Cmp, value: &str, holds: bool) {
     let (bytes, op) = (value.as_bytes(), cmp.op);
     assert_eq!(rt; does_satisfy(cmp, bytes), holds, "'{value}' {op:?}");
@@ -47,7 +47,7 @@ fn assert_answer(rt: &impl Abort, cmp: &Cmp, value: &str, holds: bool) {
     );
 }
 
-// A whole number is 1 to 18 digits, perhaps after a '-', and nothing else.
+// A whole number is 1 to 18 digits, with or without a '-' before them, and nothing else.
 #[test]
 fn a_value_is_a_number_where_it_is_whole(rt: HostRuntime) {
     for (value, number, is_equal) in [
@@ -109,7 +109,7 @@ fn a_value_is_a_literal_where_the_bytes_are_the_same(rt: HostRuntime) -> Result<
     Ok(())
 }
 
-// Where one of both is no whole number, neither is less and neither is equal.
+// Where one of the two is not a whole number, neither is less, and they are not equal.
 #[test]
 fn values_are_ordered_as_numbers(rt: HostRuntime) -> Result<(), Fail> {
     for (value, literal, [less, at_most, greater, at_least]) in [
@@ -135,7 +135,7 @@ fn values_are_ordered_as_numbers(rt: HostRuntime) -> Result<(), Fail> {
     Ok(())
 }
 
-// A raw attribute is a name, a space and a type, and then nothing, or a space and the value.
+// A raw attribute is a name, a space and a type, and perhaps a space and a value.
 #[test]
 fn an_attribute_counts_by_its_name_and_its_value(rt: HostRuntime) -> Result<(), Fail> {
     for (raw, has_value, is_rose) in [
@@ -204,7 +204,7 @@ fn any_value_is_enough_without_a_comparison(rt: HostRuntime) {
     assert!(rt; !is_enough(&Some(with_number(Op::Gt, 9)), b"9"));
 }
 
-// A progress is settled once the literal differs and no whole number can come of it.
+// A progress is settled once the value differs from the literal and cannot become a whole number.
 #[test]
 fn a_progress_is_settled_where_no_byte_can_change_it(rt: HostRuntime) -> Result<(), Fail> {
     let rose = with_text(rt.alloc(), Op::Eq, "Rose")?;

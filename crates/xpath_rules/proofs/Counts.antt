@@ -15,9 +15,9 @@ use Rattle.acl_model.specs.declared.path.Axis.TheVariants.{Child, Descendant}
 use Rattle.acl_model.specs.declared.path.Test.{Test}
 use Rattle.acl_model.specs.declared.path.Test.TheVariants.{Any, Named}
 use Rattle.xpath_rules.specs.Grammar.{WrittenCmp, WrittenPred, WrittenStep, spaces, slash_text, test_text, is_test, lead_text, further_text, way_text, is_way, body_text, is_attribute, is_dot, cmp_text, is_cmp, pred_text, is_pred, pred_of, step_text, is_step, step_of, path_text, is_path, path_of}
-use Rattle.xpath_rules.specs.Reading.{Spells}
-use Rattle.xpath_rules.specs.Machine.{read_path_of}
-use Rattle.xpath_rules.specs.Answers.{CanBeRead}
+use Rattle.xpath_rules.specs.PathReading.{Spells}
+use Rattle.xpath_rules.specs.PathMachine.{read_path_of}
+use Rattle.xpath_rules.specs.PathAnswers.{CanBeRead}
 use Rattle.xpath_rules.specs.Counting.{step_count, pred_count, way_test_count, pred_step_count, in_32_bits}
 use Rattle.xpath_rules.proofs.Names.{and_left, and_right, test_le}
 use Rattle.xpath_rules.proofs.Places.{read_within, read_spelled}
@@ -58,7 +58,7 @@ body_length (s ∷ way) (Some name) is = let w = way_length (s ∷ way) is in le
 pred_length : (p : WrittenPred) → is_pred p ≡ true → length p.way + 1 ≤ length (pred_text p)
 pred_length p is =
     let body : List ℕ = body_text p.way p.attribute in
-    let tail : List ℕ = cmp_text p.cmp ++ (spaces p.behind ++ 93 ∷ []) in
+    let tail : List ℕ = cmp_text p.cmp ++ (spaces p.after ++ 93 ∷ []) in
     let w : length p.way ≤ length body = body_length p.way p.attribute (and_left (is_way p.way) _ is) in
     let a = length-append (spaces p.before) (body ++ tail) in
     let b = length-append body tail in

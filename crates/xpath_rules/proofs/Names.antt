@@ -17,7 +17,7 @@ use Rattle.acl_model.specs.declared.path.Axis.TheVariants.{Child, Descendant}
 use Rattle.acl_model.specs.declared.path.Test.{Test}
 use Rattle.acl_model.specs.declared.path.Test.TheVariants.{Any, Named}
 use Rattle.xpath_rules.specs.Grammar.{slash_text, test_text, lead_text, further_text, way_text, is_test, is_way, body_text}
-use Rattle.xpath_rules.specs.Machine.{longer_test, has_room}
+use Rattle.xpath_rules.specs.PathMachine.{longer_test, has_room}
 
 -- ---- Bool
 
@@ -76,7 +76,7 @@ test_text_more (Named name) b h = refl
 
 -- ---- ways
 
--- What stands before the test of a further step of a way.
+-- What comes before the test of a later step of a way.
 abbrev pub opening : List PredStep → Axis → List ℕ
 opening [] axis = lead_text axis
 opening (s ∷ way) axis = slash_text axis
@@ -93,18 +93,18 @@ pub body_of_way : (way : List PredStep) (s : PredStep) → body_text (way ++ s �
 body_of_way [] s = refl
 body_of_way (r ∷ way) s = refl
 
--- What stands between a way and the name of an attribute.
+-- What comes between a way and the name of an attribute.
 abbrev pub at_text : List PredStep → List ℕ
 at_text [] = 64 ∷ []
 at_text (s ∷ way) = 47 ∷ 64 ∷ []
 
-pub at_text_behind : (way : List PredStep) (s : PredStep) → at_text (way ++ s ∷ []) ≡ 47 ∷ 64 ∷ []
-at_text_behind [] s = refl
-at_text_behind (r ∷ way) s = refl
+pub at_text_after : (way : List PredStep) (s : PredStep) → at_text (way ++ s ∷ []) ≡ 47 ∷ 64 ∷ []
+at_text_after [] s = refl
+at_text_after (r ∷ way) s = refl
 
-pub opening_behind : (way : List PredStep) (s : PredStep) (axis : Axis) → opening (way ++ s ∷ []) axis ≡ slash_text axis
-opening_behind [] s axis = refl
-opening_behind (r ∷ way) s axis = refl
+pub opening_after : (way : List PredStep) (s : PredStep) (axis : Axis) → opening (way ++ s ∷ []) axis ≡ slash_text axis
+opening_after [] s axis = refl
+opening_after (r ∷ way) s axis = refl
 
 pub body_of_attribute : (way : List PredStep) (name : List ℕ) → body_text way (Some name) ≡ way_text way ++ (at_text way ++ name)
 body_of_attribute [] name = refl

@@ -30,7 +30,7 @@ use Rattle.xpath_rules.specs.declared.state.Compared.{Compared}
 use Rattle.xpath_rules.specs.declared.state.Digits.{Digits}
 use Rattle.xpath_rules.specs.declared.state.Next.{Next}
 use Rattle.xpath_rules.specs.Grammar.{WrittenOperand, WrittenCmp, WrittenPred, WrittenStep, spaces, slash_text, test_text, lead_text, further_text, way_text, is_way, is_test, body_text, is_attribute, is_dot, sign_text, quote_byte, is_quotable, minus_text, operand_text, is_operand, operand_of, cmp_text, is_cmp, cmp_of, pred_text, is_pred, pred_of, step_text, is_step, step_of, path_text, is_path, path_of}
-use Rattle.xpath_rules.specs.Machine.{whole_way, compared_pred, bare_pred, number, whole_steps, with_pred, step, run, path_at_end}
+use Rattle.xpath_rules.specs.PathMachine.{whole_way, compared_pred, bare_pred, number, whole_steps, with_pred, step, run, path_at_end}
 use Rattle.xpath_rules.proofs.Names.{and_left, and_right, and_both, le_test, test_le, test_lt, lt_test, all_more, length_more, own, value_more, value_first, value_of_18, value_of_17}
 use Rattle.xpath_rules.proofs.PathSoundness.{map_more}
 use Rattle.xpath_rules.proofs.Soundness.{number_is}
@@ -39,18 +39,18 @@ use Rattle.xpath_rules.proofs.CmpRuns.{EndsBody, sign_ends, body_ends, attribute
 
 -- ---- predicates
 
-pub closing_run : (user : List ℕ) (level : Level) (pred : Pred) (n : ℕ) (rest : List ℕ) → run user (closing n rest) (inside_at level (Inside.BehindOperand pred)) ≡ run user rest (State.InStep (with_pred level pred))
+pub closing_run : (user : List ℕ) (level : Level) (pred : Pred) (n : ℕ) (rest : List ℕ) → run user (closing n rest) (inside_at level (Inside.AfterOperand pred)) ≡ run user rest (State.InStep (with_pred level pred))
 closing_run user level pred n rest =
-    run_spaces user (inside_at level (Inside.BehindOperand pred)) refl n (93 ∷ rest) ∙ takes user 93 rest (inside_at level (Inside.BehindOperand pred)) (State.InStep (with_pred level pred)) refl
+    run_spaces user (inside_at level (Inside.AfterOperand pred)) refl n (93 ∷ rest) ∙ takes user 93 rest (inside_at level (Inside.AfterOperand pred)) (State.InStep (with_pred level pred)) refl
 
 pub bare_run : (user : List ℕ) (level : Level) (body : Body) → is_dot body.way body.attribute ≡ false → (n : ℕ) (rest : List ℕ)
-    → run user (closing n rest) (inside_at level (Inside.BehindBody body)) ≡ run user rest (State.InStep (with_pred level (bare_pred body)))
+    → run user (closing n rest) (inside_at level (Inside.AfterBody body)) ≡ run user rest (State.InStep (with_pred level (bare_pred body)))
 bare_run user level body dot n rest =
-    run_spaces user (inside_at level (Inside.BehindBody body)) refl n (93 ∷ rest) ∙ takes user 93 rest (inside_at level (Inside.BehindBody body)) (State.InStep (with_pred level (bare_pred body))) (rw dot refl)
+    run_spaces user (inside_at level (Inside.AfterBody body)) refl n (93 ∷ rest) ∙ takes user 93 rest (inside_at level (Inside.AfterBody body)) (State.InStep (with_pred level (bare_pred body))) (rw dot refl)
 
--- What stands behind the body of a predicate.
+-- What follows the body of a predicate.
 pub cmp_run : (user : List ℕ) (level : Level) (way : List PredStep) (attribute : Option (List ℕ)) (cmp : Option WrittenCmp) (n : ℕ) (rest : List ℕ) → is_cmp cmp ≡ true → (not (is_dot way attribute) || is_some cmp) ≡ true
-    → run user (cmp_text cmp ++ closing n rest) (inside_at level (Inside.BehindBody (record { way = way; attribute = attribute })))
+    → run user (cmp_text cmp ++ closing n rest) (inside_at level (Inside.AfterBody (record { way = way; attribute = attribute })))
     ≡ run user rest (State.InStep (with_pred level (record { way = way; attribute = attribute; cmp = option_map (cmp_of user) cmp })))
 cmp_run user level way attribute None n rest is dot =
     bare_run user level (record { way = way; attribute = attribute }) (no_dot (is_dot way attribute) dot) n rest
@@ -60,8 +60,8 @@ cmp_run user level way attribute None n rest is dot =
     no_dot false h = refl
 cmp_run user level way attribute (Some c) n rest is dot =
     let body : Body = record { way = way; attribute = attribute } in
-    ap (λ t. run user t (inside_at level (Inside.BehindBody body))) (regroup_four (spaces c.before) (sign_text c.op) (spaces c.between) (operand_text c.operand) (closing n rest))
-    ∙ run_spaces user (inside_at level (Inside.BehindBody body)) refl c.before (sign_text c.op ++ (spaces c.between ++ (operand_text c.operand ++ closing n rest)))
+    ap (λ t. run user t (inside_at level (Inside.AfterBody body))) (regroup_four (spaces c.before) (sign_text c.op) (spaces c.between) (operand_text c.operand) (closing n rest))
+    ∙ run_spaces user (inside_at level (Inside.AfterBody body)) refl c.before (sign_text c.op ++ (spaces c.between ++ (operand_text c.operand ++ closing n rest)))
     ∙ sign_run user level body c.op c.between c.operand is (closing n rest)
     ∙ operand_run user level (record { body = body; op = c.op }) c.operand is n rest
     ∙ closing_run user level (compared_pred (record { body = body; op = c.op }) (operand_of user c.operand)) n rest
@@ -75,11 +75,11 @@ pub pred_run : (user : List ℕ) (level : Level) (p : WrittenPred) (rest : List 
 pred_run user level p rest is =
     let more : (is_attribute p.attribute && (is_cmp p.cmp && (not (is_dot p.way p.attribute) || is_some p.cmp))) ≡ true = and_right (is_way p.way) _ is in
     let last : (is_cmp p.cmp && (not (is_dot p.way p.attribute) || is_some p.cmp)) ≡ true = and_right (is_attribute p.attribute) _ more in
-    ap (λ t. run user (91 ∷ t) (State.InStep level)) (regroup_pred (spaces p.before) (body_text p.way p.attribute) (cmp_text p.cmp) (spaces p.behind) rest)
-    ∙ takes user 91 (spaces p.before ++ (body_text p.way p.attribute ++ (cmp_text p.cmp ++ closing p.behind rest))) (State.InStep level) (inside_at level Inside.Open) refl
-    ∙ run_spaces user (inside_at level Inside.Open) refl p.before (body_text p.way p.attribute ++ (cmp_text p.cmp ++ closing p.behind rest))
-    ∙ body_run user level p.way p.attribute (and_left (is_way p.way) _ is) (and_left (is_attribute p.attribute) _ more) p.cmp p.behind rest
-    ∙ cmp_run user level p.way p.attribute p.cmp p.behind rest (and_left (is_cmp p.cmp) _ last) (and_right (is_cmp p.cmp) _ last)
+    ap (λ t. run user (91 ∷ t) (State.InStep level)) (regroup_pred (spaces p.before) (body_text p.way p.attribute) (cmp_text p.cmp) (spaces p.after) rest)
+    ∙ takes user 91 (spaces p.before ++ (body_text p.way p.attribute ++ (cmp_text p.cmp ++ closing p.after rest))) (State.InStep level) (inside_at level Inside.Open) refl
+    ∙ run_spaces user (inside_at level Inside.Open) refl p.before (body_text p.way p.attribute ++ (cmp_text p.cmp ++ closing p.after rest))
+    ∙ body_run user level p.way p.attribute (and_left (is_way p.way) _ is) (and_left (is_attribute p.attribute) _ more) p.cmp p.after rest
+    ∙ cmp_run user level p.way p.attribute p.cmp p.after rest (and_left (is_cmp p.cmp) _ last) (and_right (is_cmp p.cmp) _ last)
 
 -- ---- paths
 
@@ -95,7 +95,7 @@ preds_run user done axis test had (p ∷ preds) rest is =
     ∙ preds_run user done axis test (had ++ pred_of user p ∷ []) preds rest (and_right (is_pred p) _ is)
     ∙ ap (λ (l : List Pred). run user rest (step_with done axis test l)) (append_assoc had (pred_of user p ∷ []) (map (pred_of user) preds))
 
-pub step_run : (user : List ℕ) (done : List Step) (s : State) → step user s 47 ≡ Some (State.BehindSlash done) → (w : WrittenStep) (rest : List ℕ) → is_step w ≡ true
+pub step_run : (user : List ℕ) (done : List Step) (s : State) → step user s 47 ≡ Some (State.AfterSlash done) → (w : WrittenStep) (rest : List ℕ) → is_step w ≡ true
     → run user (step_text w ++ rest) s ≡ run user rest (State.InStep (record { done = done; step = step_of user w }))
 step_run user done s slashed w rest is =
     ap (λ t. run user t s) (regroup_three (slash_text w.axis) (test_text w.test) (flat_map pred_text w.preds) rest)

@@ -17,8 +17,8 @@ use Rattle.xpath_rules.specs.declared.state.Level.{Level}
 use Rattle.xpath_rules.specs.declared.state.Inside.{Inside}
 use Rattle.xpath_rules.specs.declared.state.Next.{Next}
 use Rattle.xpath_rules.specs.Grammar.{WrittenPred, WrittenStep, slash_text, test_text, is_test, pred_text, is_pred, pred_of, step_text, is_step, step_of, path_text, is_path, path_of}
-use Rattle.xpath_rules.specs.Reading.{Spells}
-use Rattle.xpath_rules.specs.Machine.{Row, choose, test_rows, longer_test, has_room, whole_steps, path_step, goes_on, longer_step, with_pred, state_behind, inside_rows, path_rows, step, run, path_at_end}
+use Rattle.xpath_rules.specs.PathReading.{Spells}
+use Rattle.xpath_rules.specs.PathMachine.{Row, choose, test_rows, longer_test, has_room, whole_steps, path_step, goes_on, longer_step, with_pred, state_after, inside_rows, path_rows, step, run, path_at_end}
 use Rattle.xpath_rules.proofs.Tables.{AllRows, chosen}
 use Rattle.xpath_rules.proofs.Names.{and_left, and_right, and_both, all_more, first_name, name_more, test_more, test_text_more}
 use Rattle.xpath_rules.proofs.SoFar.{SoFar, text_in, state_in, IsFormed, Writes, WritesPred, Leads}
@@ -38,15 +38,15 @@ flat_more f xs x = flat_map-append f xs (x ∷ []) ∙ ap (λ t. flat_map f xs +
 -- What was written of a path, for each state.
 pub data PathSoFar : Type 0 where
   Start : PathSoFar
-  BehindSlash : List WrittenStep → PathSoFar
-  BehindSlashes : List WrittenStep → PathSoFar
+  AfterSlash : List WrittenStep → PathSoFar
+  AfterSlashes : List WrittenStep → PathSoFar
   InStep : List WrittenStep → WrittenStep → PathSoFar
   InPredicate : List WrittenStep → WrittenStep → SoFar → PathSoFar
 
 abbrev pub text_of : PathSoFar → List ℕ
 text_of PathSoFar.Start = []
-text_of (PathSoFar.BehindSlash done) = path_text done ++ 47 ∷ []
-text_of (PathSoFar.BehindSlashes done) = path_text done ++ 47 ∷ 47 ∷ []
+text_of (PathSoFar.AfterSlash done) = path_text done ++ 47 ∷ []
+text_of (PathSoFar.AfterSlashes done) = path_text done ++ 47 ∷ 47 ∷ []
 text_of (PathSoFar.InStep done s) = path_text done ++ step_text s
 text_of (PathSoFar.InPredicate done s w) = path_text done ++ (step_text s ++ text_in w)
 
@@ -55,15 +55,15 @@ level_of user done s = record { done = map (step_of user) done; step = step_of u
 
 abbrev pub state_of : List ℕ → PathSoFar → State
 state_of user PathSoFar.Start = State.Start
-state_of user (PathSoFar.BehindSlash done) = State.BehindSlash (map (step_of user) done)
-state_of user (PathSoFar.BehindSlashes done) = State.BehindSlashes (map (step_of user) done)
+state_of user (PathSoFar.AfterSlash done) = State.AfterSlash (map (step_of user) done)
+state_of user (PathSoFar.AfterSlashes done) = State.AfterSlashes (map (step_of user) done)
 state_of user (PathSoFar.InStep done s) = State.InStep (level_of user done s)
 state_of user (PathSoFar.InPredicate done s w) = State.InPredicate (level_of user done s) (state_in user w)
 
 abbrev pub IsPathFormed : PathSoFar → Type 0
 IsPathFormed PathSoFar.Start = Unit {0}
-IsPathFormed (PathSoFar.BehindSlash done) = list_all is_step done ≡ true
-IsPathFormed (PathSoFar.BehindSlashes done) = list_all is_step done ≡ true
+IsPathFormed (PathSoFar.AfterSlash done) = list_all is_step done ≡ true
+IsPathFormed (PathSoFar.AfterSlashes done) = list_all is_step done ≡ true
 IsPathFormed (PathSoFar.InStep done s) = (list_all is_step done ≡ true) × (is_step s ≡ true)
 IsPathFormed (PathSoFar.InPredicate done s w) = (list_all is_step done ≡ true) × (is_step s ≡ true) × IsFormed w
 
@@ -114,7 +114,7 @@ done_formed done s all one = all_more is_step done s all one
 longer_written : WrittenStep → ℕ → WrittenStep
 longer_written s b = record { axis = s.axis; test = longer_test s.test b; preds = s.preds }
 
--- Where the name goes on there is no predicate yet.
+-- Where the name continues, there is no predicate yet.
 no_preds : (user : List ℕ) (s : WrittenStep) → goes_on (step_of user s) ≡ true → s.preds ≡ []
 no_preds user s h = none s.preds (eqb-true _ 0 (and_right (has_room s.test) _ h))
   where
@@ -132,12 +132,12 @@ longer_text user s b h =
     ∙ ap (λ t. (slash_text s.axis ++ t) ++ b ∷ []) (sym (append-nil (test_text s.test)) ∙ ap (λ t. test_text s.test ++ t) (sym none))
 
 rows_read : (user : List ℕ) (w : PathSoFar) → IsPathFormed w → AllRows (λ b next. Reads user (text_of w ++ b ∷ []) next) (path_rows (state_of user w))
-rows_read user PathSoFar.Start formed = (more user [] 47 (PathSoFar.BehindSlash []) refl refl, tt)
-rows_read user (PathSoFar.BehindSlash done) formed = (
-  more user (text_of (PathSoFar.BehindSlash done)) 47 (PathSoFar.BehindSlashes done) (simp append_assoc) formed,
-  test_lead user (text_of (PathSoFar.BehindSlash done)) done Child refl formed,
+rows_read user PathSoFar.Start formed = (more user [] 47 (PathSoFar.AfterSlash []) refl refl, tt)
+rows_read user (PathSoFar.AfterSlash done) formed = (
+  more user (text_of (PathSoFar.AfterSlash done)) 47 (PathSoFar.AfterSlashes done) (simp append_assoc) formed,
+  test_lead user (text_of (PathSoFar.AfterSlash done)) done Child refl formed,
 )
-rows_read user (PathSoFar.BehindSlashes done) formed = test_lead user (text_of (PathSoFar.BehindSlashes done)) done Descendant refl formed
+rows_read user (PathSoFar.AfterSlashes done) formed = test_lead user (text_of (PathSoFar.AfterSlashes done)) done Descendant refl formed
 rows_read user (PathSoFar.InStep done s) formed = (
   λ b is. record {
     written = PathSoFar.InStep done (record { axis = s.axis; test = longer_test s.test b; preds = s.preds });
@@ -147,10 +147,10 @@ rows_read user (PathSoFar.InStep done s) formed = (
   },
   (
     λ b is. record {
-      written = PathSoFar.BehindSlash (done ++ s ∷ []);
+      written = PathSoFar.AfterSlash (done ++ s ∷ []);
       formed = done_formed done s formed.0 formed.1;
       text_is = ap (λ t. t ++ 47 ∷ []) (flat_more step_text done s) ∙ ap (λ k. (path_text done ++ step_text s) ++ k ∷ []) (sym (eqb-true b 47 is));
-      state_is = ap State.BehindSlash (map_more (step_of user) done s);
+      state_is = ap State.AfterSlash (map_more (step_of user) done s);
     },
     (
       more user (text_of (PathSoFar.InStep done s)) 91 (PathSoFar.InPredicate done s (SoFar.Open 0)) (regroup_two (path_text done) (step_text s) (91 ∷ [])) (formed.0, formed.1, tt),
@@ -169,7 +169,7 @@ pred_more s p = ap (λ t. slash_text s.axis ++ (test_text s.test ++ t)) (flat_mo
 
 -- A byte in a predicate.
 resumed_reads : (user : List ℕ) (done : List WrittenStep) (s : WrittenStep) (text : List ℕ) (next : Next) → list_all is_step done ≡ true → is_step s ≡ true
-    → Leads user text next → Reads user (path_text done ++ (step_text s ++ text)) (state_behind (level_of user done s) next)
+    → Leads user text next → Reads user (path_text done ++ (step_text s ++ text)) (state_after (level_of user done s) next)
 resumed_reads user done s text (Next.More inside) all one h = record {
   written = PathSoFar.InPredicate done s h.written;
   formed = (all, one, h.formed);
@@ -184,21 +184,21 @@ resumed_reads user done s text (Next.Whole pred) all one h = record {
       (map_more (pred_of user) s.preds h.written ∙ ap (λ p. map (pred_of user) s.preds ++ p ∷ []) h.meaning);
 }
 
--- What a state in a predicate leads to.
+-- The state after a byte in a predicate.
 inside_reads : (user : List ℕ) (done : List WrittenStep) (s : WrittenStep) (w : SoFar) → list_all is_step done ≡ true → is_step s ≡ true → IsFormed w
-    → (b : ℕ) (o : Option Next) → choose (inside_rows user (state_in user w)) b ≡ o → (t : State) → option_map (state_behind (level_of user done s)) o ≡ Some t
+    → (b : ℕ) (o : Option Next) → choose (inside_rows user (state_in user w)) b ≡ o → (t : State) → option_map (state_after (level_of user done s)) o ≡ Some t
     → Reads user (path_text done ++ (step_text s ++ (text_in w ++ b ∷ []))) t
 inside_reads user done s w all one formed b None e t is = cc
 inside_reads user done s w all one formed b (Some next) e t is =
-    let same : state_behind (level_of user done s) next ≡ t = cc in
+    let same : state_after (level_of user done s) next ≡ t = cc in
     subst (λ (x : State). Reads user (path_text done ++ (step_text s ++ (text_in w ++ b ∷ []))) x) same
     (resumed_reads user done s (text_in w ++ b ∷ []) next all one
     (chosen (λ b next. Leads user (text_in w ++ b ∷ []) next) (inside_rows user (state_in user w)) (rows_lead user w formed) b next e))
 
 byte_read : (user : List ℕ) (w : PathSoFar) → IsPathFormed w → (b : ℕ) (t : State) → step user (state_of user w) b ≡ Some t → Reads user (text_of w ++ b ∷ []) t
 byte_read user PathSoFar.Start formed b t e = chosen (λ b next. Reads user (text_of PathSoFar.Start ++ b ∷ []) next) (path_rows State.Start) (rows_read user PathSoFar.Start formed) b t e
-byte_read user (PathSoFar.BehindSlash done) formed b t e = chosen (λ b next. Reads user (text_of (PathSoFar.BehindSlash done) ++ b ∷ []) next) (path_rows (state_of user (PathSoFar.BehindSlash done))) (rows_read user (PathSoFar.BehindSlash done) formed) b t e
-byte_read user (PathSoFar.BehindSlashes done) formed b t e = chosen (λ b next. Reads user (text_of (PathSoFar.BehindSlashes done) ++ b ∷ []) next) (path_rows (state_of user (PathSoFar.BehindSlashes done))) (rows_read user (PathSoFar.BehindSlashes done) formed) b t e
+byte_read user (PathSoFar.AfterSlash done) formed b t e = chosen (λ b next. Reads user (text_of (PathSoFar.AfterSlash done) ++ b ∷ []) next) (path_rows (state_of user (PathSoFar.AfterSlash done))) (rows_read user (PathSoFar.AfterSlash done) formed) b t e
+byte_read user (PathSoFar.AfterSlashes done) formed b t e = chosen (λ b next. Reads user (text_of (PathSoFar.AfterSlashes done) ++ b ∷ []) next) (path_rows (state_of user (PathSoFar.AfterSlashes done))) (rows_read user (PathSoFar.AfterSlashes done) formed) b t e
 byte_read user (PathSoFar.InStep done s) formed b t e = chosen (λ b next. Reads user (text_of (PathSoFar.InStep done s) ++ b ∷ []) next) (path_rows (state_of user (PathSoFar.InStep done s))) (rows_read user (PathSoFar.InStep done s) formed) b t e
 byte_read user (PathSoFar.InPredicate done s w) formed b t e =
     subst (λ (x : List ℕ). Reads user x t) (regroup_three (path_text done) (step_text s) (text_in w) (b ∷ []))
@@ -233,8 +233,8 @@ path_formed (d ∷ done) s all one = done_formed (d ∷ done) s all one
 
 end_spells : (user : List ℕ) (w : PathSoFar) → IsPathFormed w → (path : Path) → path_at_end (state_of user w) ≡ Some path → Spells user (text_of w) path
 end_spells user PathSoFar.Start formed path e = cc
-end_spells user (PathSoFar.BehindSlash done) formed path e = cc
-end_spells user (PathSoFar.BehindSlashes done) formed path e = cc
+end_spells user (PathSoFar.AfterSlash done) formed path e = cc
+end_spells user (PathSoFar.AfterSlashes done) formed path e = cc
 end_spells user (PathSoFar.InStep done s) formed path e =
     let same : path ≡ record { steps = whole_steps (level_of user done s) } = cc in
     record {

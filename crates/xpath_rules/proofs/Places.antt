@@ -10,11 +10,11 @@ use Rattle.xpath_rules.specs.declared.state.State.{State}
 use Rattle.xpath_rules.specs.declared.path_error.PathError.{PathError}
 use Rattle.xpath_rules.specs.declared.path_error.PathError.TheVariants.{Fault, NoMemory}
 use Rattle.xpath_rules.specs.Grammar.{path_text}
-use Rattle.xpath_rules.specs.Reading.{Spells, IsBegun, IsLongestFront, IsPlace}
-use Rattle.xpath_rules.specs.Machine.{step, run, live, count_behind, path_at_end, path_or_place, read_path_of}
-use Rattle.xpath_rules.specs.Answers.{ButForMemory, IfFault, IsNoPath}
+use Rattle.xpath_rules.specs.PathReading.{Spells, IsBegun, IsLongestPrefix, IsPlace}
+use Rattle.xpath_rules.specs.PathMachine.{step, run, live, count_after, path_at_end, path_or_place, read_path_of}
+use Rattle.xpath_rules.specs.PathAnswers.{ButForMemory, IfFault, IsNoPath}
 use Rattle.xpath_rules.proofs.Names.{le_test}
-use Rattle.xpath_rules.proofs.Runs.{run-behind, front_runs, live-le, live_runs, length_taken, taken_live}
+use Rattle.xpath_rules.proofs.Runs.{run-after, prefix_runs, live-le, live_runs, length_taken, taken_live}
 use Rattle.xpath_rules.proofs.PathSoundness.{read_spells}
 use Rattle.xpath_rules.proofs.PathRuns.{path_run, end_of, end_is}
 use Rattle.xpath_rules.proofs.Completion.{rest_of, completes}
@@ -73,17 +73,17 @@ live_begun : (user bytes : List ℕ) → IsBegun (take (live user bytes State.St
 live_begun user bytes =
     let ran = live_runs user bytes State.Start in
     let more = completes user ran.0 in
-    let all = run-behind user (take (live user bytes State.Start) bytes) (rest_of ran.0) State.Start ran.0 ran.1 in
+    let all = run-after user (take (live user bytes State.Start) bytes) (rest_of ran.0) State.Start ran.0 ran.1 in
     let spelled = read_spells user (take (live user bytes State.Start) bytes ++ rest_of ran.0) more.0 more.1 (all ∙ more.2) more.3 in
     record { rest = rest_of ran.0; written = spelled.written; in_form = spelled.in_form; text = spelled.text }
 
 begun_live : (user bytes : List ℕ) (m : ℕ) → m ≤ length bytes → IsBegun (take m bytes) → m ≤ live user bytes State.Start
 begun_live user bytes m within b =
-    let front = front_runs user (take m bytes) b.rest State.Start (end_of user b.written) (ap (λ t. run user t State.Start) b.text ∙ path_run user b.written b.in_form) in
-    taken_live user bytes State.Start front.0 m within front.1
+    let prefix = prefix_runs user (take m bytes) b.rest State.Start (end_of user b.written) (ap (λ t. run user t State.Start) b.text ∙ path_run user b.written b.in_form) in
+    taken_live user bytes State.Start prefix.0 m within prefix.1
 
--- The live bytes are the longest front that some text of the grammar begins with.
-pub live_longest : (user bytes : List ℕ) → IsLongestFront bytes (live user bytes State.Start)
+-- The live bytes are the longest prefix that some text of the grammar begins with.
+pub live_longest : (user bytes : List ℕ) → IsLongestPrefix bytes (live user bytes State.Start)
 live_longest user bytes = record { within = live-le user bytes State.Start; begun = live_begun user bytes; longest = begun_live user bytes }
 
 refused_at : (user bytes : List ℕ) (at : ℕ) → read_path_of bytes user ≡ Err at → at ≡ min 1024 (live user bytes State.Start)
@@ -100,18 +100,18 @@ refused_at user bytes at e =
     placed (Some p) place e = cc
 
 pub refused_place : (user bytes : List ℕ) (at : ℕ) → read_path_of bytes user ≡ Err at → IsPlace bytes at
-refused_place user bytes at e = record { front = live user bytes State.Start; is_longest = live_longest user bytes; capped = refused_at user bytes at e }
+refused_place user bytes at e = record { prefix = live user bytes State.Start; is_longest = live_longest user bytes; capped = refused_at user bytes at e }
 
 pub one_place : (bytes : List ℕ) (at other : ℕ) → IsPlace bytes at → IsPlace bytes other → at ≡ other
 one_place bytes at other p q =
-    let m = p.is_longest.longest q.front q.is_longest.within q.is_longest.begun in
-    let n = q.is_longest.longest p.front p.is_longest.within p.is_longest.begun in
-    let same : p.front ≡ q.front = omega arith in
+    let m = p.is_longest.longest q.prefix q.is_longest.within q.is_longest.begun in
+    let n = q.is_longest.longest p.prefix p.is_longest.within p.is_longest.begun in
+    let same : p.prefix ≡ q.prefix = omega arith in
     p.capped ∙ ap (λ x. min 1024 x) same ∙ sym q.capped
 
--- ---- what a place says of whole texts
+-- ---- what the offset of a fault says about whole texts
 
--- A text that begins with some bytes begins with each front of them.
+-- A text that begins with some bytes begins with each prefix of them.
 begun_shorter : (bytes : List ℕ) (m n : ℕ) → m ≤ n → n ≤ length bytes → IsBegun (take n bytes) → IsBegun (take m bytes)
 begun_shorter bytes m n less within b =
     let long : length (take n bytes) ≡ n = length_taken n bytes within in
@@ -126,21 +126,21 @@ begun_shorter bytes m n less within b =
     }
 
 pub place_begun : (bytes : List ℕ) (at : ℕ) → IsPlace bytes at → IsBegun (take at bytes)
-place_begun bytes at p = let is = p.capped in begun_shorter bytes at p.front (omega (arith, is)) p.is_longest.within p.is_longest.begun
+place_begun bytes at p = let is = p.capped in begun_shorter bytes at p.prefix (omega (arith, is)) p.is_longest.within p.is_longest.begun
 
 pub place_longest : (bytes : List ℕ) (at : ℕ) → IsPlace bytes at → at < most_path_bytes → at < length bytes → IsBegun (take (at + 1) bytes) → ⊥
 place_longest bytes at p few within begun =
     let is = p.capped in let more = p.is_longest.longest (at + 1) (omega (arith, within)) begun in omega (arith, is, more, few)
 
 pub place_within : (bytes : List ℕ) (at : ℕ) → IsPlace bytes at → at ≤ length bytes
-place_within bytes at p = let is = p.capped in let front = p.is_longest.within in omega (arith, is, front)
+place_within bytes at p = let is = p.capped in let prefix = p.is_longest.within in omega (arith, is, prefix)
 
 pub place_capped : (bytes : List ℕ) (at : ℕ) → IsPlace bytes at → at ≤ most_path_bytes
 place_capped bytes at p = let is = p.capped in omega (arith, is)
 
 -- ---- the loop of the code
 
--- Bytes are left at the 1,024th place.
+-- There is a byte at offset 1,024.
 pub too_many : (bytes user rest : List ℕ) (at : ℕ) (s : State) → 1024 < length bytes → 1024 ≤ at → at ≤ 1024 → at + live user rest s ≡ live user bytes State.Start → ButForMemory (Err (Fault at)) (read_path_of bytes user)
 unfolding read_path_of
 too_many bytes user rest at s long more few lives =
@@ -154,7 +154,7 @@ pub refused_byte : (bytes user rest : List ℕ) (at : ℕ) (s : State) (b : ℕ)
 unfolding read_path_of run live
 refused_byte bytes user rest at s b none few ran lives =
     let died : run user bytes State.Start ≡ None = sym ran ∙ ap (λ o. option_and_then (run user rest) o) none in
-    let dead : live user bytes State.Start ≡ at + 0 = sym lives ∙ ap (λ o. at + count_behind (live user rest) o) none in
+    let dead : live user bytes State.Start ≡ at + 0 = sym lives ∙ ap (λ o. at + count_after (live user rest) o) none in
     let place : at ≡ min 1024 (live user bytes State.Start) = omega (arith, dead) in
     elim (nat_le (length bytes) 1024) as (λ v. Err at ≡ cond v (path_or_place (option_and_then path_at_end (run user bytes State.Start)) (min 1024 (live user bytes State.Start))) (Err (min 1024 (live user bytes State.Start)))) [
       | true ↦ ap Err place ∙ sym (ap (λ o. path_or_place (option_and_then path_at_end o) (min 1024 (live user bytes State.Start))) died)
@@ -169,7 +169,7 @@ taken_run user rest s t b all is ran = sym (ap (λ o. option_and_then (run user 
 pub taken_lives : (user rest : List ℕ) (s t : State) (b at all : ℕ) → step user s b ≡ Some t → at + live user (b ∷ rest) s ≡ all → (at + 1) + live user rest t ≡ all
 unfolding live
 taken_lives user rest s t b at all is lives =
-    let more : at + suc (live user rest t) ≡ all = sym (ap (λ o. at + count_behind (live user rest) o) is) ∙ lives in omega (arith, more)
+    let more : at + suc (live user rest t) ≡ all = sym (ap (λ o. at + count_after (live user rest) o) is) ∙ lives in omega (arith, more)
 
 -- All bytes were taken.
 all_taken : (bytes user : List ℕ) (at : ℕ) (s : State) → length bytes ≤ 1024 → at ≤ 1024 → run user [] s ≡ run user bytes State.Start → at + live user [] s ≡ live user bytes State.Start

@@ -22,15 +22,15 @@ use Rattle.xpath_rules.specs.declared.quote.Quote.{Quote}
 use Rattle.xpath_rules.specs.declared.quote.Quote.TheVariants.{Double, Single}
 use Rattle.xpath_rules.specs.Grammar.{WrittenOperand, WrittenCmp, WrittenPred, WrittenStep, spaces, slash_text, test_text, is_test, body_text, is_way, is_attribute, is_dot, sign_text, quote_byte, is_quotable, minus_text, signed_number, operand_text, is_operand, operand_of, cmp_text, is_cmp, cmp_of, pred_text, is_pred, pred_of, step_text, is_step, step_of, path_text, is_path, path_of}
 use Rattle.xpath_rules.specs.Canonical.{quote_for, canonical_number, canonical_operand, canonical_cmp, canonical_pred, canonical_step, canonical_text}
-use Rattle.xpath_rules.specs.Reading.{Spells}
-use Rattle.xpath_rules.specs.Machine.{read_path_of}
-use Rattle.xpath_rules.specs.Answers.{CanBeRead}
+use Rattle.xpath_rules.specs.PathReading.{Spells}
+use Rattle.xpath_rules.specs.PathMachine.{read_path_of}
+use Rattle.xpath_rules.specs.PathAnswers.{CanBeRead}
 use Rattle.xpath_rules.proofs.Names.{and_left, and_right, and_both, le_test, test_le, test_lt, lt_test, own}
 use Rattle.xpath_rules.proofs.Places.{spelled_read, read_within, read_spelled}
 
 -- ---- operands
 
--- What a canonical operand has to be for one that was written.
+-- What is proved of the canonical operand of one that was written.
 record IsAsGood (user : List ℕ) (w : WrittenOperand) (c : WrittenOperand) : Type 0 where
   in_form : is_operand c ≡ true
   meaning : operand_of user c ≡ operand_of user w
@@ -149,10 +149,10 @@ pred_shorter user p is =
     let good = cmp_shorter user p.cmp (cmp_is p is) in
     let a = length-append body (short ++ 93 ∷ []) in
     let b = length-append short (93 ∷ []) in
-    let d = length-append (spaces p.before) (body ++ (cmp_text p.cmp ++ (spaces p.behind ++ 93 ∷ []))) in
-    let e = length-append body (cmp_text p.cmp ++ (spaces p.behind ++ 93 ∷ [])) in
-    let f = length-append (cmp_text p.cmp) (spaces p.behind ++ 93 ∷ []) in
-    let g = length-append (spaces p.behind) (93 ∷ []) in
+    let d = length-append (spaces p.before) (body ++ (cmp_text p.cmp ++ (spaces p.after ++ 93 ∷ []))) in
+    let e = length-append body (cmp_text p.cmp ++ (spaces p.after ++ 93 ∷ [])) in
+    let f = length-append (cmp_text p.cmp) (spaces p.after ++ 93 ∷ []) in
+    let g = length-append (spaces p.after) (93 ∷ []) in
     omega (arith, good, a, b, d, e, f, g)
 
 -- ---- steps and paths
@@ -217,7 +217,7 @@ all_steps : (steps : List WrittenStep) → is_path steps ≡ true → list_all i
 all_steps [] is = refl
 all_steps (s ∷ steps) is = is
 
--- What stands for the canonical spelling of a path that some bytes spell.
+-- The written path of the canonical spelling, for a path that some bytes spell.
 pub canonical_spells : (user bytes : List ℕ) (path : Path) → Spells user bytes path → Spells user (canonical_text path) path
 canonical_spells user bytes path s = record {
   written = map canonical_step path.steps;

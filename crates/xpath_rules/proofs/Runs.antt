@@ -3,9 +3,9 @@ use Rattle.std.proofs.Common.{◌≡◌, ℕ, zero, suc, ◌+◌, ◌≤◌, Opt
 use Rattle.std.specs.Option.{option_and_then}
 use Rattle.std.proofs.lemmas.Grind.{common_steps}
 use Rattle.xpath_rules.specs.declared.state.State.{State}
-use Rattle.xpath_rules.specs.Machine.{step, run, live, count_behind}
+use Rattle.xpath_rules.specs.PathMachine.{step, run, live, count_after}
 
--- A run over two texts is a run over the second behind the first.
+-- A run over two texts is a run over the second after the first.
 pub run-append : (user xs ys : List ℕ) (s : State) → run user (xs ++ ys) s ≡ option_and_then (run user ys) (run user xs s)
 unfolding run
 run-append user [] ys s = refl
@@ -14,13 +14,13 @@ run-append user (x ∷ xs) ys s = elim (step user s x) as (λ o. option_and_then
   | Some t ↦ run-append user xs ys t
 ]
 
--- What follows a text that runs.
-pub run-behind : (user xs ys : List ℕ) (s t : State) → run user xs s ≡ Some t → run user (xs ++ ys) s ≡ run user ys t
-run-behind user xs ys s t e = run-append user xs ys s ∙ ap (λ o. option_and_then (run user ys) o) e
+-- The run over two texts, where the first of them runs.
+pub run-after : (user xs ys : List ℕ) (s t : State) → run user xs s ≡ Some t → run user (xs ++ ys) s ≡ run user ys t
+run-after user xs ys s t e = run-append user xs ys s ∙ ap (λ o. option_and_then (run user ys) o) e
 
--- The front of a text that runs, runs.
-pub front_runs : (user xs ys : List ℕ) (s t : State) → run user (xs ++ ys) s ≡ Some t → (u : State) × (run user xs s ≡ Some u)
-front_runs user xs ys s t e =
+-- A prefix of a text that runs, runs.
+pub prefix_runs : (user xs ys : List ℕ) (s t : State) → run user (xs ++ ys) s ≡ Some t → (u : State) × (run user xs s ≡ Some u)
+prefix_runs user xs ys s t e =
     elim (run user xs s) as (λ o. option_and_then (run user ys) o ≡ Some t → (u : State) × (o ≡ Some u)) [
       | None ↦ λ e. cc
       | Some u ↦ λ e. (u, refl)
@@ -30,7 +30,7 @@ front_runs user xs ys s t e =
 pub live-le : (user bytes : List ℕ) (s : State) → live user bytes s ≤ length bytes
 unfolding live
 live-le user [] s = omega arith
-live-le user (b ∷ bs) s = elim (step user s b) as (λ o. count_behind (live user bs) o ≤ suc (length bs)) [
+live-le user (b ∷ bs) s = elim (step user s b) as (λ o. count_after (live user bs) o ≤ suc (length bs)) [
   | None ↦ omega arith
   | Some t ↦ let h = live-le user bs t in omega (arith, h)
 ]
@@ -39,17 +39,17 @@ live-le user (b ∷ bs) s = elim (step user s b) as (λ o. count_behind (live us
 pub live_runs : (user bytes : List ℕ) (s : State) → (t : State) × (run user (take (live user bytes s) bytes) s ≡ Some t)
 unfolding run live
 live_runs user [] s = (s, refl)
-live_runs user (b ∷ bs) s = elim (step user s b) as (λ o. step user s b ≡ o → (t : State) × (run user (take (count_behind (live user bs) o) (b ∷ bs)) s ≡ Some t)) [
+live_runs user (b ∷ bs) s = elim (step user s b) as (λ o. step user s b ≡ o → (t : State) × (run user (take (count_after (live user bs) o) (b ∷ bs)) s ≡ Some t)) [
   | None ↦ λ e. (s, refl)
   | Some u ↦ λ e. let h = live_runs user bs u in (h.0, ap (λ o. option_and_then (run user (take (live user bs u) bs)) o) e ∙ h.1)
 ] refl
 
--- Each byte of a front that runs is live.
+-- Each byte of a prefix that runs is live.
 pub runs_live : (user xs ys : List ℕ) (s t : State) → run user xs s ≡ Some t → length xs ≤ live user (xs ++ ys) s
 unfolding run live
 runs_live user [] ys s t e = omega arith
 runs_live user (x ∷ xs) ys s t e =
-    elim (step user s x) as (λ o. option_and_then (run user xs) o ≡ Some t → suc (length xs) ≤ count_behind (live user (xs ++ ys)) o) [
+    elim (step user s x) as (λ o. option_and_then (run user xs) o ≡ Some t → suc (length xs) ≤ count_after (live user (xs ++ ys)) o) [
       | None ↦ λ e. cc
       | Some u ↦ λ e. let h = runs_live user xs ys u t e in omega (arith, h)
     ] e

@@ -27,10 +27,10 @@ use Rattle.xpath_rules.specs.declared.state.Compared.{Compared}
 use Rattle.xpath_rules.specs.declared.state.Digits.{Digits}
 use Rattle.xpath_rules.specs.declared.state.Next.{Next}
 use Rattle.xpath_rules.specs.Grammar.{WrittenOperand, WrittenCmp, WrittenPred, spaces, slash_text, test_text, lead_text, way_text, is_way, is_test, body_text, is_attribute, is_dot, sign_text, quote_byte, is_quotable, signed_number, minus_text, operand_text, is_operand, operand_of, cmp_text, pred_text, is_pred, pred_of}
-use Rattle.xpath_rules.specs.Machine.{Row, byte, some, test_rows, longer_test, has_room, whole_way, way_step, longer_way, bare_pred, compared_pred, body_rows, operand_rows, closing_rows, longer_digits, takes_digit, number, inside_rows}
+use Rattle.xpath_rules.specs.PathMachine.{Row, byte, some, test_rows, longer_test, has_room, whole_way, way_step, longer_way, bare_pred, compared_pred, body_rows, operand_rows, closing_rows, longer_digits, takes_digit, number, inside_rows}
 use Rattle.xpath_rules.proofs.Tables.{AllRows}
-use Rattle.xpath_rules.proofs.Names.{and_left, and_right, and_both, le_test, test_le, test_lt, lt_test, all_more, length_more, first_name, name_more, test_more, test_text_more, opening, way_text_more, way_more, body_of_way, at_text, at_text_behind, opening_behind, body_of_attribute, value_more, value_first, value_of_18}
-use Rattle.xpath_rules.proofs.SoFar.{Front, Signed, SoFar, front_text, signed_text, begun_text, text_in, body_in, compared_in, state_in, IsLevel, IsFront, IsFormed, Writes, WritesPred, Leads}
+use Rattle.xpath_rules.proofs.Names.{and_left, and_right, and_both, le_test, test_le, test_lt, lt_test, all_more, length_more, first_name, name_more, test_more, test_text_more, opening, way_text_more, way_more, body_of_way, at_text, at_text_after, opening_after, body_of_attribute, value_more, value_first, value_of_18}
+use Rattle.xpath_rules.proofs.SoFar.{Prefix, Signed, SoFar, prefix_text, signed_text, begun_text, text_in, body_in, compared_in, state_in, IsLevel, IsPrefix, IsFormed, Writes, WritesPred, Leads}
 
 -- ---- one byte more
 
@@ -61,11 +61,11 @@ regroup_four a b c d e = simp append_assoc
 pub space_more : (n : ℕ) → spaces (n + 1) ≡ spaces n ++ 32 ∷ []
 space_more n = sym (replicate_more n 32)
 
-pub front_more : (f : Front) → front_text (record f { between = f.between + 1 }) ≡ front_text f ++ 32 ∷ []
-front_more f = rw (space_more f.between) (simp append_assoc)
+pub prefix_more : (f : Prefix) → prefix_text (record f { between = f.between + 1 }) ≡ prefix_text f ++ 32 ∷ []
+prefix_more f = rw (space_more f.between) (simp append_assoc)
 
-pub signed_more : (s : Signed) → signed_text (record s { behind = s.behind + 1 }) ≡ signed_text s ++ 32 ∷ []
-signed_more s = ap (λ t. front_text s.front ++ (sign_text s.op ++ t)) (space_more s.behind) ∙ regroup_three (front_text s.front) (sign_text s.op) (spaces s.behind) (32 ∷ [])
+pub signed_more : (s : Signed) → signed_text (record s { after = s.after + 1 }) ≡ signed_text s ++ 32 ∷ []
+signed_more s = ap (λ t. prefix_text s.prefix ++ (sign_text s.op ++ t)) (space_more s.after) ∙ regroup_three (prefix_text s.prefix) (sign_text s.op) (spaces s.after) (32 ∷ [])
 
 -- ---- the tables that states share
 
@@ -74,30 +74,30 @@ pub at_text_of : (user t u : List ℕ) (rows : List (Row Next)) → t ≡ u
     → AllRows (λ b next. Leads user (t ++ b ∷ []) next) rows → AllRows (λ b next. Leads user (u ++ b ∷ []) next) rows
 at_text_of user t u rows e all = subst (λ (x : List ℕ). AllRows (λ b next. Leads user (x ++ b ∷ []) next) rows) e all
 
--- A sign behind a body.
-pub sign_behind : (f : Front) (op : Op) → signed_text (record { front = f; op = op; behind = 0 }) ≡ front_text f ++ sign_text op
-sign_behind f op = simp append-nil
+-- A comparison operator after a body.
+pub sign_after : (f : Prefix) (op : Op) → signed_text (record { prefix = f; op = op; after = 0 }) ≡ prefix_text f ++ sign_text op
+sign_after f op = simp append-nil
 
-pub bare_text : (f : Front) → pred_text (record { before = f.before; way = f.way; attribute = f.attribute; cmp = None; behind = f.between }) ≡ front_text f ++ 93 ∷ []
+pub bare_text : (f : Prefix) → pred_text (record { before = f.before; way = f.way; attribute = f.attribute; cmp = None; after = f.between }) ≡ prefix_text f ++ 93 ∷ []
 bare_text f = simp append_assoc
 
-pub bare_formed : (f : Front) → IsFront f → not (is_dot f.way f.attribute) ≡ true
-    → is_pred (record { before = f.before; way = f.way; attribute = f.attribute; cmp = None; behind = f.between }) ≡ true
+pub bare_formed : (f : Prefix) → IsPrefix f → not (is_dot f.way f.attribute) ≡ true
+    → is_pred (record { before = f.before; way = f.way; attribute = f.attribute; cmp = None; after = f.between }) ≡ true
 bare_formed f formed dot = and_both _ _ formed.0 (and_both _ _ formed.1 (rw dot refl))
 
-pub body_lead : (user : List ℕ) (f : Front) → IsFront f → AllRows (λ b next. Leads user (front_text f ++ b ∷ []) next) (body_rows (body_in f))
+pub body_lead : (user : List ℕ) (f : Prefix) → IsPrefix f → AllRows (λ b next. Leads user (prefix_text f ++ b ∷ []) next) (body_rows (body_in f))
 body_lead user f formed = (
-  more user (front_text f) 32 (SoFar.BehindBody (record f { between = f.between + 1 })) (front_more f) formed,
+  more user (prefix_text f) 32 (SoFar.AfterBody (record f { between = f.between + 1 })) (prefix_more f) formed,
   (
-    more user (front_text f) 61 (SoFar.BehindSign (record { front = f; op = Eq; behind = 0 })) (sign_behind f Eq) formed,
+    more user (prefix_text f) 61 (SoFar.AfterSign (record { prefix = f; op = Eq; after = 0 })) (sign_after f Eq) formed,
     (
-      more user (front_text f) 33 (SoFar.Exclamation f) refl formed,
+      more user (prefix_text f) 33 (SoFar.Exclamation f) refl formed,
       (
-        more user (front_text f) 60 (SoFar.Less f) refl formed,
+        more user (prefix_text f) 60 (SoFar.Less f) refl formed,
         (
-          more user (front_text f) 62 (SoFar.Greater f) refl formed,
+          more user (prefix_text f) 62 (SoFar.Greater f) refl formed,
           (
-            λ b is. whole user (front_text f) 93 (record { before = f.before; way = f.way; attribute = f.attribute; cmp = None; behind = f.between })
+            λ b is. whole user (prefix_text f) 93 (record { before = f.before; way = f.way; attribute = f.attribute; cmp = None; after = f.between })
                 (bare_text f) (bare_formed f formed (and_right (nat_eq b 93) _ is)) b (and_left (nat_eq b 93) _ is),
             tt,
           ),
@@ -108,7 +108,7 @@ body_lead user f formed = (
 )
 
 -- The first digit of a number.
-pub digit_lead : (user : List ℕ) (s : Signed) (negative : Bool) (t : List ℕ) → t ≡ signed_text s ++ minus_text negative → IsFront s.front
+pub digit_lead : (user : List ℕ) (s : Signed) (negative : Bool) (t : List ℕ) → t ≡ signed_text s ++ minus_text negative → IsPrefix s.prefix
     → (b : ℕ) → is_ascii_digit b ≡ true
     → Leads user (t ++ b ∷ []) (Next.More (Inside.InNumber (compared_in s) (record { negative = negative; count = 1; value = b - 48 })))
 digit_lead user s negative t text formed b is = record {
@@ -118,9 +118,9 @@ digit_lead user s negative t text formed b is = record {
   state_is = ap (λ (v : ℕ). Inside.InNumber (compared_in s) (record { negative = negative; count = 1; value = v })) (sym (value_first b is));
 }
 
-pub operand_lead : (user : List ℕ) (s : Signed) → IsFront s.front → AllRows (λ b next. Leads user (signed_text s ++ b ∷ []) next) (operand_rows (compared_in s))
+pub operand_lead : (user : List ℕ) (s : Signed) → IsPrefix s.prefix → AllRows (λ b next. Leads user (signed_text s ++ b ∷ []) next) (operand_rows (compared_in s))
 operand_lead user s formed = (
-  more user (signed_text s) 32 (SoFar.BehindSign (record s { behind = s.behind + 1 })) (signed_more s) formed,
+  more user (signed_text s) 32 (SoFar.AfterSign (record s { after = s.after + 1 })) (signed_more s) formed,
   (
     more user (signed_text s) 34 (SoFar.InLiteral s Double []) refl (formed, refl),
     (
@@ -142,18 +142,18 @@ operand_lead user s formed = (
 -- A predicate with a comparison.
 abbrev pub compared_written : Signed → WrittenOperand → ℕ → WrittenPred
 compared_written s operand n = record {
-  before = s.front.before;
-  way = s.front.way;
-  attribute = s.front.attribute;
-  cmp = Some (record { before = s.front.between; op = s.op; between = s.behind; operand = operand });
-  behind = n;
+  before = s.prefix.before;
+  way = s.prefix.way;
+  attribute = s.prefix.attribute;
+  cmp = Some (record { before = s.prefix.between; op = s.op; between = s.after; operand = operand });
+  after = n;
 }
 
 pub compared_text : (s : Signed) (operand : WrittenOperand) (n : ℕ) → pred_text (compared_written s operand n) ≡ (signed_text s ++ (operand_text operand ++ spaces n)) ++ 93 ∷ []
 compared_text s operand n = simp append_assoc
 
-pub compared_formed : (s : Signed) (operand : WrittenOperand) (n : ℕ) → IsFront s.front → is_operand operand ≡ true → is_pred (compared_written s operand n) ≡ true
-compared_formed s operand n formed is = and_both _ _ formed.0 (and_both _ _ formed.1 (and_both _ _ is (or_true (not (is_dot s.front.way s.front.attribute)))))
+pub compared_formed : (s : Signed) (operand : WrittenOperand) (n : ℕ) → IsPrefix s.prefix → is_operand operand ≡ true → is_pred (compared_written s operand n) ≡ true
+compared_formed s operand n formed is = and_both _ _ formed.0 (and_both _ _ formed.1 (and_both _ _ is (or_true (not (is_dot s.prefix.way s.prefix.attribute)))))
   where
     or_true : (a : Bool) → (a || true) ≡ true
     or_true true = refl
@@ -162,12 +162,12 @@ compared_formed s operand n formed is = and_both _ _ formed.0 (and_both _ _ form
 pub operand_more : (s : Signed) (operand : WrittenOperand) (n : ℕ) → signed_text s ++ (operand_text operand ++ spaces (n + 1)) ≡ (signed_text s ++ (operand_text operand ++ spaces n)) ++ 32 ∷ []
 operand_more s operand n = ap (λ t. signed_text s ++ (operand_text operand ++ t)) (space_more n) ∙ regroup_three (signed_text s) (operand_text operand) (spaces n) (32 ∷ [])
 
-pub closing_lead : (user : List ℕ) (s : Signed) (operand : WrittenOperand) (n : ℕ) → IsFront s.front → is_operand operand ≡ true
+pub closing_lead : (user : List ℕ) (s : Signed) (operand : WrittenOperand) (n : ℕ) → IsPrefix s.prefix → is_operand operand ≡ true
     → AllRows (λ b next. Leads user ((signed_text s ++ (operand_text operand ++ spaces n)) ++ b ∷ []) next) (closing_rows (compared_pred (compared_in s) (operand_of user operand)))
 closing_lead user s operand n formed is = (
-  more user (text_in (SoFar.BehindOperand s operand n)) 32 (SoFar.BehindOperand s operand (n + 1)) (operand_more s operand n) (formed, is),
+  more user (text_in (SoFar.AfterOperand s operand n)) 32 (SoFar.AfterOperand s operand (n + 1)) (operand_more s operand n) (formed, is),
   (
-    whole user (text_in (SoFar.BehindOperand s operand n)) 93 (compared_written s operand n) (compared_text s operand n) (compared_formed s operand n formed is),
+    whole user (text_in (SoFar.AfterOperand s operand n)) 93 (compared_written s operand n) (compared_text s operand n) (compared_formed s operand n formed is),
     tt,
   ),
 )
@@ -194,12 +194,12 @@ way_longer n level b room =
     ∙ ap (λ t. 91 ∷ t) (regroup_four (spaces n) (way_text level.done) (opening level.done level.step.axis) (test_text level.step.test) (b ∷ []))
     ∙ ap (λ t. 91 ∷ ((spaces n ++ t) ++ b ∷ [])) (sym (way_text_more level.done level.step))
 
--- The front that a way or an attribute is, with no spaces behind it.
-pub way_front : (n : ℕ) (level : WayLevel) → front_text (record { before = n; way = whole_way level; attribute = None; between = 0 }) ≡ text_in (SoFar.InWay n level)
-way_front n level = rw (body_of_way level.done level.step) (simp append-nil)
+-- The prefix that a way or an attribute is, with no spaces after it.
+pub way_prefix : (n : ℕ) (level : WayLevel) → prefix_text (record { before = n; way = whole_way level; attribute = None; between = 0 }) ≡ text_in (SoFar.InWay n level)
+way_prefix n level = rw (body_of_way level.done level.step) (simp append-nil)
 
-pub attribute_front : (n : ℕ) (way : List PredStep) (name : List ℕ) → front_text (record { before = n; way = way; attribute = Some name; between = 0 }) ≡ text_in (SoFar.InAttribute n way name)
-attribute_front n way name = rw (body_of_attribute way name) (simp append-nil)
+pub attribute_prefix : (n : ℕ) (way : List PredStep) (name : List ℕ) → prefix_text (record { before = n; way = way; attribute = Some name; between = 0 }) ≡ text_in (SoFar.InAttribute n way name)
+attribute_prefix n way name = rw (body_of_attribute way name) (simp append-nil)
 
 pub whole_formed : (level : WayLevel) → IsLevel level → is_way (whole_way level) ≡ true
 whole_formed level formed = way_more level.done level.step formed.0 formed.1
@@ -222,7 +222,7 @@ digits_of_number negative digits is = and_left (list_all is_ascii_digit digits) 
 pub few_of_number : (negative : Bool) (digits : List ℕ) → is_operand (WrittenOperand.Digits negative digits) ≡ true → length digits ≤ 18
 few_of_number negative digits is = test_le _ _ (and_right (nat_lt 0 (length digits)) _ (and_right (list_all is_ascii_digit digits) _ is))
 
-pub digits_longer : (user : List ℕ) (s : Signed) (negative : Bool) (digits : List ℕ) → IsFront s.front → is_operand (WrittenOperand.Digits negative digits) ≡ true
+pub digits_longer : (user : List ℕ) (s : Signed) (negative : Bool) (digits : List ℕ) → IsPrefix s.prefix → is_operand (WrittenOperand.Digits negative digits) ≡ true
     → (b : ℕ) → (is_ascii_digit b && (nat_lt (length digits) 18 && nat_lt (digits_value 10 digits) 100000000000000000)) ≡ true
     → Leads user (text_in (SoFar.InNumber s negative digits) ++ b ∷ []) (Next.More (Inside.InNumber (compared_in s) (longer_digits (record { negative = negative; count = length digits; value = digits_value 10 digits }) b)))
 digits_longer user s negative digits formed is b more =
@@ -242,14 +242,14 @@ pub number_is : (user : List ℕ) (negative : Bool) (digits : List ℕ) → is_o
     → operand_of user (WrittenOperand.Digits negative digits) ≡ number (record { negative = negative; count = length digits; value = digits_value 10 digits })
 number_is user negative digits is = ap (λ (n : ℕ). Number (signed_number negative n)) (sym (value_of_18 digits (digits_of_number negative digits is) (few_of_number negative digits is)))
 
--- In each state, each row leads on.
+-- In each state, each row leads to a state with the longer text.
 pub rows_lead : (user : List ℕ) (w : SoFar) → IsFormed w → AllRows (λ b next. Leads user (text_in w ++ b ∷ []) next) (inside_rows user (state_in user w))
 rows_lead user (SoFar.Open n) formed = (
   more user (text_in (SoFar.Open n)) 32 (SoFar.Open (n + 1)) (ap (λ t. 91 ∷ t) (space_more n)) tt,
   (
     more user (text_in (SoFar.Open n)) 46 (SoFar.Dot n) refl tt,
     (
-      more user (text_in (SoFar.Open n)) 64 (SoFar.BehindAt n []) refl refl,
+      more user (text_in (SoFar.Open n)) 64 (SoFar.AfterAt n []) refl refl,
       test_lead user (text_in (SoFar.Open n)) n [] Child (ap (λ t. 91 ∷ t) (sym (append-nil (spaces n)))) refl,
     ),
   ),
@@ -265,41 +265,41 @@ rows_lead user (SoFar.InWay n level) formed = (
       (way_longer n level b (and_right (continues_name b) _ go)) (formed.0, test_more level.step.test b formed.1 go),
   (
     more user (text_in (SoFar.InWay n level)) 47 (SoFar.WaySlash n level) (simp append_assoc) formed,
-    at_text_of user _ (text_in (SoFar.InWay n level)) (body_rows (record { way = whole_way level; attribute = None })) (way_front n level)
+    at_text_of user _ (text_in (SoFar.InWay n level)) (body_rows (record { way = whole_way level; attribute = None })) (way_prefix n level)
         (body_lead user (record { before = n; way = whole_way level; attribute = None; between = 0 }) (whole_formed level formed, refl)),
   ),
 )
 rows_lead user (SoFar.WaySlash n level) formed = (
-  more user (text_in (SoFar.WaySlash n level)) 47 (SoFar.WaySlashes n (whole_way level)) (rw (opening_behind level.done level.step Descendant) (simp append_assoc)) (whole_formed level formed),
+  more user (text_in (SoFar.WaySlash n level)) 47 (SoFar.WaySlashes n (whole_way level)) (rw (opening_after level.done level.step Descendant) (simp append_assoc)) (whole_formed level formed),
   (
-    more user (text_in (SoFar.WaySlash n level)) 64 (SoFar.BehindAt n (whole_way level)) (rw (at_text_behind level.done level.step) (simp append_assoc)) (whole_formed level formed),
-    test_lead user (text_in (SoFar.WaySlash n level)) n (whole_way level) Child (rw (opening_behind level.done level.step Child) refl) (whole_formed level formed),
+    more user (text_in (SoFar.WaySlash n level)) 64 (SoFar.AfterAt n (whole_way level)) (rw (at_text_after level.done level.step) (simp append_assoc)) (whole_formed level formed),
+    test_lead user (text_in (SoFar.WaySlash n level)) n (whole_way level) Child (rw (opening_after level.done level.step Child) refl) (whole_formed level formed),
   ),
 )
 rows_lead user (SoFar.WaySlashes n way) formed = test_lead user (text_in (SoFar.WaySlashes n way)) n way Descendant refl formed
-rows_lead user (SoFar.BehindAt n way) formed =
-    (λ b is. other user (text_in (SoFar.BehindAt n way)) (SoFar.InAttribute n way (b ∷ [])) b (simp append_assoc) (formed, first_name b is), tt)
+rows_lead user (SoFar.AfterAt n way) formed =
+    (λ b is. other user (text_in (SoFar.AfterAt n way)) (SoFar.InAttribute n way (b ∷ [])) b (simp append_assoc) (formed, first_name b is), tt)
 rows_lead user (SoFar.InAttribute n way name) formed = (
   λ b is. other user (text_in (SoFar.InAttribute n way name)) (SoFar.InAttribute n way (name ++ b ∷ [])) b (simp append_assoc) (formed.0, name_more name b formed.1 is),
-  at_text_of user _ (text_in (SoFar.InAttribute n way name)) (body_rows (record { way = way; attribute = Some name })) (attribute_front n way name)
+  at_text_of user _ (text_in (SoFar.InAttribute n way name)) (body_rows (record { way = way; attribute = Some name })) (attribute_prefix n way name)
       (body_lead user (record { before = n; way = way; attribute = Some name; between = 0 }) formed),
 )
-rows_lead user (SoFar.BehindBody f) formed = body_lead user f formed
+rows_lead user (SoFar.AfterBody f) formed = body_lead user f formed
 rows_lead user (SoFar.Exclamation f) formed =
-    (more user (text_in (SoFar.Exclamation f)) 61 (SoFar.BehindSign (record { front = f; op = Ne; behind = 0 })) (sign_behind f Ne ∙ simp append_assoc) formed, tt)
+    (more user (text_in (SoFar.Exclamation f)) 61 (SoFar.AfterSign (record { prefix = f; op = Ne; after = 0 })) (sign_after f Ne ∙ simp append_assoc) formed, tt)
 rows_lead user (SoFar.Less f) formed = (
-  more user (text_in (SoFar.Less f)) 61 (SoFar.BehindSign (record { front = f; op = Le; behind = 0 })) (sign_behind f Le ∙ simp append_assoc) formed,
-  at_text_of user _ (text_in (SoFar.Less f)) (operand_rows (record { body = body_in f; op = Lt })) (sign_behind f Lt)
-      (operand_lead user (record { front = f; op = Lt; behind = 0 }) formed),
+  more user (text_in (SoFar.Less f)) 61 (SoFar.AfterSign (record { prefix = f; op = Le; after = 0 })) (sign_after f Le ∙ simp append_assoc) formed,
+  at_text_of user _ (text_in (SoFar.Less f)) (operand_rows (record { body = body_in f; op = Lt })) (sign_after f Lt)
+      (operand_lead user (record { prefix = f; op = Lt; after = 0 }) formed),
 )
 rows_lead user (SoFar.Greater f) formed = (
-  more user (text_in (SoFar.Greater f)) 61 (SoFar.BehindSign (record { front = f; op = Ge; behind = 0 })) (sign_behind f Ge ∙ simp append_assoc) formed,
-  at_text_of user _ (text_in (SoFar.Greater f)) (operand_rows (record { body = body_in f; op = Gt })) (sign_behind f Gt)
-      (operand_lead user (record { front = f; op = Gt; behind = 0 }) formed),
+  more user (text_in (SoFar.Greater f)) 61 (SoFar.AfterSign (record { prefix = f; op = Ge; after = 0 })) (sign_after f Ge ∙ simp append_assoc) formed,
+  at_text_of user _ (text_in (SoFar.Greater f)) (operand_rows (record { body = body_in f; op = Gt })) (sign_after f Gt)
+      (operand_lead user (record { prefix = f; op = Gt; after = 0 }) formed),
 )
-rows_lead user (SoFar.BehindSign s) formed = operand_lead user s formed
+rows_lead user (SoFar.AfterSign s) formed = operand_lead user s formed
 rows_lead user (SoFar.InLiteral s quote bytes) formed = (
-  more user (text_in (SoFar.InLiteral s quote bytes)) (quote_byte quote) (SoFar.BehindOperand s (WrittenOperand.Quoted quote bytes) 0) (simp (append_assoc, append-nil)) formed,
+  more user (text_in (SoFar.InLiteral s quote bytes)) (quote_byte quote) (SoFar.AfterOperand s (WrittenOperand.Quoted quote bytes) 0) (simp (append_assoc, append-nil)) formed,
   (λ b is. other user (text_in (SoFar.InLiteral s quote bytes)) (SoFar.InLiteral s quote (bytes ++ b ∷ [])) b (simp append_assoc) (formed.0, literal_more quote bytes b formed.1 is), tt),
 )
 rows_lead user (SoFar.Minus s) formed = (digit_lead user s true (text_in (SoFar.Minus s)) refl formed, tt)
@@ -313,5 +313,5 @@ rows_lead user (SoFar.InNumber s negative digits) formed = (
 rows_lead user (SoFar.LetterU s) formed = (more user (text_in (SoFar.LetterU s)) 83 (SoFar.LettersUs s) (simp append_assoc) formed, tt)
 rows_lead user (SoFar.LettersUs s) formed = (more user (text_in (SoFar.LettersUs s)) 69 (SoFar.LettersUse s) (simp append_assoc) formed, tt)
 rows_lead user (SoFar.LettersUse s) formed =
-    (more user (text_in (SoFar.LettersUse s)) 82 (SoFar.BehindOperand s WrittenOperand.TheUser 0) (simp append_assoc) (formed, refl), tt)
-rows_lead user (SoFar.BehindOperand s operand n) formed = closing_lead user s operand n formed.0 formed.1
+    (more user (text_in (SoFar.LettersUse s)) 82 (SoFar.AfterOperand s WrittenOperand.TheUser 0) (simp append_assoc) (formed, refl), tt)
+rows_lead user (SoFar.AfterOperand s operand n) formed = closing_lead user s operand n formed.0 formed.1

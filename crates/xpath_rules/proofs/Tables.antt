@@ -1,8 +1,8 @@
--- What holds of each row of a table holds of what the table chooses.
+-- What is true of each row of a table is true of what the table chooses.
 use Rattle.std.proofs.Common.{◌≡◌, ℕ, Bool, true, false, cond, Option, Some, None, List, [], ◌∷◌, ◌++◌, refl, sym, ap, subst, ◌∙◌}
-use Rattle.xpath_rules.specs.Machine.{Row, choose}
+use Rattle.xpath_rules.specs.PathMachine.{Row, choose}
 
--- A fact holds of each byte that a row takes and of what the row leads to.
+-- A fact is true of each byte that a row takes, with the row's result for it.
 abbrev pub AllRows : {X : Type 0} → (ℕ → X → Type 0) → List (Row X) → Type 0
 AllRows P [] = Unit {0}
 AllRows P (r ∷ rows) = ((b : ℕ) → r.takes b ≡ true → P b (r.next b)) × AllRows P rows

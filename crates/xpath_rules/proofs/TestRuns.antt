@@ -30,7 +30,7 @@ use Rattle.xpath_rules.specs.declared.state.Compared.{Compared}
 use Rattle.xpath_rules.specs.declared.state.Digits.{Digits}
 use Rattle.xpath_rules.specs.declared.state.Next.{Next}
 use Rattle.xpath_rules.specs.Grammar.{WrittenOperand, WrittenCmp, WrittenPred, WrittenStep, spaces, slash_text, test_text, lead_text, further_text, way_text, is_way, is_test, body_text, is_attribute, is_dot, sign_text, quote_byte, is_quotable, minus_text, operand_text, is_operand, operand_of, cmp_text, is_cmp, cmp_of, pred_text, is_pred, pred_of, step_text, is_step, step_of, path_text, is_path, path_of}
-use Rattle.xpath_rules.specs.Machine.{whole_way, compared_pred, bare_pred, number, whole_steps, with_pred, step, run, path_at_end}
+use Rattle.xpath_rules.specs.PathMachine.{whole_way, compared_pred, bare_pred, number, whole_steps, with_pred, step, run, path_at_end}
 use Rattle.xpath_rules.proofs.Names.{and_left, and_right, and_both, le_test, test_le, test_lt, lt_test, all_more, length_more, own, value_more, value_first, value_of_18, value_of_17}
 use Rattle.xpath_rules.proofs.PathSoundness.{map_more}
 use Rattle.xpath_rules.proofs.Soundness.{number_is}
@@ -47,7 +47,7 @@ pub alike : (user : List ℕ) (b : ℕ) (rest : List ℕ) (s t : State) → step
 unfolding run
 alike user b rest s t e = ap (λ o. option_and_then (run user rest) o) e
 
--- A byte that passes a test is none that does not.
+-- A byte that passes a test differs from each byte that does not.
 pub other_than : (p : ℕ → Bool) (b k : ℕ) → p b ≡ true → p k ≡ false → nat_eq b k ≡ false
 other_than p b k passes fails = elim (nat_eq b k) as (λ v. nat_eq b k ≡ v → v ≡ false) [
   | true ↦ λ is. let same = ap p (eqb-true b k is) in cc
@@ -105,24 +105,24 @@ pub step_goes : (user : List ℕ) (done : List Step) (axis : Axis) (xs : List �
 step_goes user done axis xs b had more few = let lt = lt_test (length xs) 255 few in rw (more, lt) refl
 
 pub child_test : (user : List ℕ) (done : List Step) (test : Test) (rest : List ℕ) → is_test test ≡ true
-    → run user (test_text test ++ rest) (State.BehindSlash done) ≡ run user rest (step_at done Child test)
-child_test user done test rest is = test_run user (State.BehindSlash done) (step_at done Child) refl
+    → run user (test_text test ++ rest) (State.AfterSlash done) ≡ run user rest (step_at done Child test)
+child_test user done test rest is = test_run user (State.AfterSlash done) (step_at done Child) refl
     (λ b h. let a = other_than begins_name b 47 h refl in let c = other_than begins_name b 42 h refl in rw (a, c, h) refl)
     (step_goes user done Child) test rest is
 
 pub descendant_test : (user : List ℕ) (done : List Step) (test : Test) (rest : List ℕ) → is_test test ≡ true
-    → run user (test_text test ++ rest) (State.BehindSlashes done) ≡ run user rest (step_at done Descendant test)
-descendant_test user done test rest is = test_run user (State.BehindSlashes done) (step_at done Descendant) refl
+    → run user (test_text test ++ rest) (State.AfterSlashes done) ≡ run user rest (step_at done Descendant test)
+descendant_test user done test rest is = test_run user (State.AfterSlashes done) (step_at done Descendant) refl
     (λ b h. let c = other_than begins_name b 42 h refl in rw (c, h) refl)
     (step_goes user done Descendant) test rest is
 
--- Behind the first slash of a step.
-pub slash_run : (user : List ℕ) (done : List Step) (s : State) (slashed : step user s 47 ≡ Some (State.BehindSlash done)) (axis : Axis) (test : Test) (rest : List ℕ) → is_test test ≡ true
+-- After the first slash of a step.
+pub slash_run : (user : List ℕ) (done : List Step) (s : State) (slashed : step user s 47 ≡ Some (State.AfterSlash done)) (axis : Axis) (test : Test) (rest : List ℕ) → is_test test ≡ true
     → run user (slash_text axis ++ (test_text test ++ rest)) s ≡ run user rest (step_at done axis test)
-slash_run user done s slashed Child test rest is = takes user 47 (test_text test ++ rest) s (State.BehindSlash done) slashed ∙ child_test user done test rest is
+slash_run user done s slashed Child test rest is = takes user 47 (test_text test ++ rest) s (State.AfterSlash done) slashed ∙ child_test user done test rest is
 slash_run user done s slashed Descendant test rest is =
-    takes user 47 (47 ∷ (test_text test ++ rest)) s (State.BehindSlash done) slashed
-    ∙ takes user 47 (test_text test ++ rest) (State.BehindSlash done) (State.BehindSlashes done) refl
+    takes user 47 (47 ∷ (test_text test ++ rest)) s (State.AfterSlash done) slashed
+    ∙ takes user 47 (test_text test ++ rest) (State.AfterSlash done) (State.AfterSlashes done) refl
     ∙ descendant_test user done test rest is
 
 -- ---- ways

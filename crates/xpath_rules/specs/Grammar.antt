@@ -1,10 +1,10 @@
--- How paths are spelled. Each rule of the grammar stands above the definition of its text; beside
--- the text stand the right form of its parts and what they mean. This project's profile of
--- XPath 1.0.
+-- The grammar of paths: this project's profile of XPath 1.0. Each rule of the grammar is above the
+-- definition of its text. After it come two more definitions: which parts are of the right form, and
+-- what they mean.
 --
--- A written path has all that its text shows. A path forgets some of it: how many spaces stand
--- where, which quotes a literal has, and which digits and '-' spell a number. No byte that may
--- continue a name may stand behind one, so no rule says that a name goes as far as it can.
+-- A written path (`WrittenStep` and its parts) is a syntax tree that has all that its text shows. A
+-- path (`Path`) has no spaces, no choice of quotes, and a number in place of its digits. No byte that
+-- may continue a name may follow one, so no rule says that a name is as long as possible.
 use Rattle.std.specs.Prelude.{ℕ, ℤ, pos, Bool, true, false, not, nat_eq, nat_le, nat_lt, ◌&&◌, ◌||◌, Option, Some, None, is_some, List, [], ◌∷◌, ◌++◌, length, map, flat_map}
 use Rattle.std.specs.List.{list_all}
 use Rattle.std.specs.Char.{is_ascii_digit}
@@ -30,12 +30,12 @@ use Rattle.acl_model.specs.declared.path.Operand.{Operand}
 use Rattle.acl_model.specs.declared.path.Operand.TheVariants.{Text, Number, User}
 use Rattle.xpath_rules.specs.declared.quote.Quote.{Quote}
 use Rattle.xpath_rules.specs.declared.quote.Quote.TheVariants.{Double, Single}
-use Rattle.xpath_rules.specs.Marks.{exclamation_mark, quotation_mark, apostrophe, less_than_sign, equals_sign, greater_than_sign, commercial_at, capital_u, capital_s, capital_e, capital_r, left_bracket, right_bracket}
+use Rattle.xpath_rules.specs.PathBytes.{exclamation_mark, quotation_mark, apostrophe, less_than_sign, equals_sign, greater_than_sign, commercial_at, capital_u, capital_s, capital_e, capital_r, left_bracket, right_bracket}
 
 -- ---- steps and tests
 
--- slash = "/" | "//": one slash leads to the children, two to all proper descendants (XPath 1.0,
--- 2.5).
+-- slash = "/" | "//": one slash is the child axis, and two slashes select all proper descendants
+-- (XPath 1.0, 2.5).
 abbrev pub slash_text : Axis → List ℕ
 slash_text Child = slash ∷ []
 slash_text Descendant = slash ∷ slash ∷ []
@@ -54,28 +54,29 @@ is_test (Named name) = is_name name
 abbrev pub spaces : ℕ → List ℕ
 spaces n = replicate n space
 
--- ---- what a predicate speaks of
+-- ---- the body of a predicate: what it selects
 
--- A way begins with its first test, or with ".//" before it (XPath 1.0, 2.5).
+-- A *way* is the path of a predicate, relative to the context node. It begins with its first test, or
+-- with ".//" and then that test (XPath 1.0, 2.5).
 abbrev pub lead_text : Axis → List ℕ
 lead_text Child = []
 lead_text Descendant = full_stop ∷ slash ∷ slash ∷ []
 
--- A further step of a way: slash test.
+-- A later step of a way: slash test.
 abbrev pub further_text : PredStep → List ℕ
 further_text s = slash_text s.axis ++ test_text s.test
 
--- way = [ ".//" ] test *( slash test ). No way is empty: a body that has none is "." or "@" name,
--- and the empty list stands for that here and in `is_way`.
+-- way = [ ".//" ] test *( slash test ). No way in a text is empty. The empty list means that the body
+-- has no way, so it is "." or "@" name.
 abbrev pub way_text : List PredStep → List ℕ
 way_text [] = []
 way_text (s ∷ more) = lead_text s.axis ++ (test_text s.test ++ flat_map further_text more)
 
--- Each test of a way is '*', or a name of 1 to 255 bytes.
+-- Each test of a way is '*', or a name of 1 to 255 bytes. The empty list has no test.
 abbrev pub is_way : List PredStep → Bool
 is_way way = list_all (λ s. is_test s.test) way
 
--- body = "." | "@" name | way [ "/@" name ]: without a way it is the element itself, or an
+-- body = "." | "@" name | way [ "/@" name ]. Without a way it selects the context node itself, or an
 -- attribute of it.
 abbrev pub body_text : List PredStep → Option (List ℕ) → List ℕ
 body_text [] None = full_stop ∷ []
@@ -83,21 +84,21 @@ body_text [] (Some name) = commercial_at ∷ name
 body_text (s ∷ more) None = way_text (s ∷ more)
 body_text (s ∷ more) (Some name) = way_text (s ∷ more) ++ (slash ∷ commercial_at ∷ name)
 
--- Where a body names an attribute, that is a name of 1 to 255 bytes.
+-- Where a body has an attribute, the attribute's name has 1 to 255 bytes and the form of a name.
 abbrev pub is_attribute : Option (List ℕ) → Bool
 is_attribute None = true
 is_attribute (Some name) = is_name name
 
--- The body "." is that without a way and without an attribute.
+-- The body is ".": it has no way and no attribute.
 abbrev pub is_dot : List PredStep → Option (List ℕ) → Bool
 is_dot [] None = true
 is_dot [] (Some name) = false
 is_dot (s ∷ more) None = false
 is_dot (s ∷ more) (Some name) = false
 
--- ---- what the values of a body are compared with
+-- ---- the comparison of a predicate
 
--- cmp = "=" | "!=" | "<" | "<=" | ">" | ">=" (XPath 1.0, 3.4).
+-- The comparison operators: cmp = "=" | "!=" | "<" | "<=" | ">" | ">=" (XPath 1.0, 3.4).
 abbrev pub sign_text : Op → List ℕ
 sign_text Eq = equals_sign ∷ []
 sign_text Ne = exclamation_mark ∷ equals_sign ∷ []
@@ -111,29 +112,29 @@ abbrev pub quote_byte : Quote → ℕ
 quote_byte Double = quotation_mark
 quote_byte Single = apostrophe
 
--- A byte may stand between two such quotes: any but the quote itself and a line feed.
+-- A byte may be in a literal with this quote: any byte but the quote itself and a line feed.
 abbrev pub is_quotable : Quote → ℕ → Bool
 is_quotable quote b = is_byte b && (not (nat_eq b (quote_byte quote)) && not (nat_eq b line_feed))
 
--- A number has a '-' before it or not.
+-- The text of a number's sign: '-' where it is negative, and nothing otherwise.
 abbrev pub minus_text : Bool → List ℕ
 minus_text false = []
 minus_text true = hyphen ∷ []
 
--- The whole number that digits and the '-' before them mean.
+-- The whole number with this sign and this absolute value.
 abbrev pub signed_number : Bool → ℕ → ℤ
 signed_number false n = pos n
 signed_number true n = neg_ℤ (pos n)
 
--- An operand as it is written: bytes between quotes, digits behind a '-' or without it, or the word
--- "USER".
+-- An operand as it is written: bytes between quotes, digits with or without a '-' before them, or the
+-- keyword "USER".
 pub data WrittenOperand : Type 0 where
   Quoted : Quote → List ℕ → WrittenOperand
   Digits : Bool → List ℕ → WrittenOperand
   TheUser : WrittenOperand
 
--- operand = literal | number | "USER", where literal = quote 0 to 255 bytes quote, and
--- number = [ "-" ] 1 to 18 digits.
+-- operand = literal | number | "USER". A literal is a quote, 0 to 255 bytes, and the same quote. A
+-- number is [ "-" ] and 1 to 18 digits.
 abbrev pub operand_text : WrittenOperand → List ℕ
 operand_text (WrittenOperand.Quoted quote bytes) = quote_byte quote ∷ (bytes ++ quote_byte quote ∷ [])
 operand_text (WrittenOperand.Digits negative digits) = minus_text negative ++ digits
@@ -156,14 +157,15 @@ operand_of user (WrittenOperand.Quoted quote bytes) = Text bytes
 operand_of user (WrittenOperand.Digits negative digits) = Number (signed_number negative (digits_value 10 digits))
 operand_of user WrittenOperand.TheUser = User user
 
--- A comparison as it is written: its sign between spaces, and its operand.
+-- A comparison as it is written: its operator, the numbers of spaces before and after the operator,
+-- and its operand.
 pub record WrittenCmp : Type 0 where
   pub before : ℕ
   pub op : Op
   pub between : ℕ
   pub operand : WrittenOperand
 
--- A comparison is spelled: sp cmp sp operand. Where there is none, nothing is written.
+-- The text of a comparison: sp cmp sp operand. Where there is no comparison, the text is empty.
 abbrev pub cmp_text : Option WrittenCmp → List ℕ
 cmp_text None = []
 cmp_text (Some c) = spaces c.before ++ (sign_text c.op ++ (spaces c.between ++ operand_text c.operand))
@@ -173,27 +175,28 @@ abbrev pub is_cmp : Option WrittenCmp → Bool
 is_cmp None = true
 is_cmp (Some c) = is_operand c.operand
 
--- What a comparison means for a user: its sign and the meaning of its operand.
+-- What a comparison means for a user: its operator, and the meaning of its operand.
 abbrev pub cmp_of : List ℕ → WrittenCmp → Cmp
 cmp_of user c = record { op = c.op; operand = operand_of user c.operand }
 
 -- ---- predicates
 
--- A predicate as it is written: its body, and its comparison if it has one, between spaces.
+-- A predicate as it is written: its body, its comparison if it has one, and the numbers of spaces
+-- before and after these.
 pub record WrittenPred : Type 0 where
   pub before : ℕ
   pub way : List PredStep
   pub attribute : Option (List ℕ)
   pub cmp : Option WrittenCmp
-  pub behind : ℕ
+  pub after : ℕ
 
 -- pred = "[" sp body [ sp cmp sp operand ] sp "]" (XPath 1.0, 2.4).
 abbrev pub pred_text : WrittenPred → List ℕ
 pred_text p =
     left_bracket ∷ (spaces p.before ++ (body_text p.way p.attribute
-    ++ (cmp_text p.cmp ++ (spaces p.behind ++ right_bracket ∷ []))))
+    ++ (cmp_text p.cmp ++ (spaces p.after ++ right_bracket ∷ []))))
 
--- Its parts are of the right form, and the body "." has a comparison.
+-- The parts of a predicate are of the right form, and where its body is ".", it has a comparison.
 abbrev pub is_pred : WrittenPred → Bool
 is_pred p =
     is_way p.way && (is_attribute p.attribute && (is_cmp p.cmp && (not (is_dot p.way p.attribute) || is_some p.cmp)))
@@ -204,7 +207,7 @@ pred_of user p = record { way = p.way; attribute = p.attribute; cmp = option_map
 
 -- ---- paths
 
--- A step as it is written: slash, test, and predicates as they are written.
+-- A step as it is written: its axis, its test, and its written predicates.
 pub record WrittenStep : Type 0 where
   pub axis : Axis
   pub test : Test
@@ -214,7 +217,7 @@ pub record WrittenStep : Type 0 where
 abbrev pub step_text : WrittenStep → List ℕ
 step_text s = slash_text s.axis ++ (test_text s.test ++ flat_map pred_text s.preds)
 
--- Its test and each of its predicates are of the right form.
+-- The test of a step and each of its predicates are of the right form.
 abbrev pub is_step : WrittenStep → Bool
 is_step s = is_test s.test && list_all is_pred s.preds
 
@@ -226,7 +229,7 @@ step_of user s = record { axis = s.axis; test = s.test; preds = map (pred_of use
 abbrev pub path_text : List WrittenStep → List ℕ
 path_text steps = flat_map step_text steps
 
--- There is a step, and each is of the right form.
+-- A path has at least one step, and each step is of the right form.
 abbrev pub is_path : List WrittenStep → Bool
 is_path [] = false
 is_path (s ∷ more) = list_all is_step (s ∷ more)

@@ -1,7 +1,7 @@
-pub mod Marks
+pub mod PathBytes
 pub mod Grammar
-pub mod Reading
-pub mod Machine
-pub mod Answers
+pub mod PathReading
+pub mod PathMachine
+pub mod PathAnswers
 pub mod Canonical
 pub mod Counting

@@ -1,10 +1,10 @@
-//! How a reader goes on in a predicate: a function for each place in it.
+//! The state machine in a predicate: a function for each state up to the comparison operator.
 
 ghost use Rattle.std.specs.Prelude.{◌≡◌, [], Some, None, IfOk};
 ghost use Rattle.xpath_rules.specs.Grammar.{is_dot};
 ghost use Rattle.acl_model.specs.declared.path.Axis.TheVariants.{Child, Descendant};
-ghost use Rattle.xpath_rules.specs.Machine.{choose, test_rows, way_step, body_rows, closing_rows};
-ghost use Rattle.xpath_rules.specs.Machine.{inside_rows, whole_way, bare_pred, compared_pred, longer_way};
+ghost use Rattle.xpath_rules.specs.PathMachine.{choose, test_rows, way_step, body_rows, closing_rows};
+ghost use Rattle.xpath_rules.specs.PathMachine.{inside_rows, whole_way, bare_pred, compared_pred, longer_way};
 
 use crate::lists::{only, with_last};
 use crate::state::{Body, Compared, Inside, Next, WayLevel};
@@ -15,14 +15,14 @@ use acl_model::{
 };
 use std::alloc::{AllocError, Global};
 
-/// Whether the body is `.`, which can't be a predicate without a comparison.
+/// Whether the body is `.`, which needs a comparison.
 fn is_dot(body: &Body) -> bool
     ensures { result ≡ is_dot body.now.way body.now.attribute }
 {
     body.way.is_empty() && body.attribute.is_none()
 }
 
-/// The predicate that a body is without a comparison.
+/// The predicate that has this body and no comparison.
 fn bare_pred(body: Body) -> Pred
     ensures { result ≡ bare_pred body }
 {
@@ -34,18 +34,19 @@ fn bare_pred(body: Body) -> Pred
     }
 }
 
-/// The state behind a body and a sign.
+/// The state after a body and a comparison operator.
 fn with_sign(body: Body, op: Op) -> Option<Next>
-    ensures { result ≡ Some (Next.More (Inside.BehindSign (record { body = body; op = op }))) }
+    ensures { result ≡ Some (Next.More (Inside.AfterSign (record { body = body; op = op }))) }
 {
-    Some(Next::More(Inside::BehindSign(Compared { body, op })))
+    Some(Next::More(Inside::AfterSign(Compared { body, op })))
 }
 
-fn behind_body(body: Body, byte: u8) -> Option<Next>
+/// After a body: a space, the first byte of an operator, or the end of the predicate.
+fn after_body(body: Body, byte: u8) -> Option<Next>
     ensures { result ≡ choose (body_rows body) byte }
 {
     match byte {
-        b' ' => Some(Next::More(Inside::BehindBody(body))),
+        b' ' => Some(Next::More(Inside::AfterBody(body))),
         b'=' => with_sign(body, Op::Eq),
         b'!' => Some(Next::More(Inside::Exclamation(body))),
         b'<' => Some(Next::More(Inside::Less(body))),
@@ -60,7 +61,7 @@ fn behind_body(body: Body, byte: u8) -> Option<Next>
     }
 }
 
-/// A step of a way begins with this byte.
+/// The state after the first byte of a way's test. `None` where the byte begins none.
 fn way_step(
     alloc: Global,
     way: Sequence<PredStep>,
@@ -78,17 +79,19 @@ fn way_step(
     }))))
 }
 
+/// After `[`: a space, or the first byte of a body.
 fn open(alloc: Global, byte: u8) -> Result<Option<Next>, AllocError>
     ensures { IfOk result (λ next. next ≡ choose (inside_rows [] Inside.Open) byte) }
 {
     match byte {
         b' ' => Ok(Some(Next::More(Inside::Open))),
         b'.' => Ok(Some(Next::More(Inside::Dot))),
-        b'@' => Ok(Some(Next::More(Inside::BehindAt(Sequence::new(alloc))))),
+        b'@' => Ok(Some(Next::More(Inside::AfterAt(Sequence::new(alloc))))),
         _ => way_step(alloc, Sequence::new(alloc), Axis::Child, byte),
     }
 }
 
+/// After `.`: a slash, or what may follow a body.
 fn dot(alloc: Global, byte: u8) -> Option<Next>
     ensures { result ≡ choose (inside_rows [] Inside.Dot) byte }
 {
@@ -99,9 +102,10 @@ fn dot(alloc: Global, byte: u8) -> Option<Next>
         way: Sequence::new(alloc),
         attribute: None,
     };
-    behind_body(body, byte)
+    after_body(body, byte)
 }
 
+/// After `./`: the second slash.
 fn dot_slash(alloc: Global, byte: u8) -> Option<Next>
     ensures { result ≡ choose (inside_rows [] Inside.DotSlash) byte }
 {
@@ -111,7 +115,7 @@ fn dot_slash(alloc: Global, byte: u8) -> Option<Next>
     Some(Next::More(Inside::WaySlashes(Sequence::new(alloc))))
 }
 
-/// The steps of a way, once the open one is whole.
+/// All steps of a way, including the open one.
 fn whole_way(level: WayLevel) -> Result<Sequence<PredStep>, AllocError>
     ensures { IfOk result (λ way. way ≡ whole_way level) }
 {
@@ -119,7 +123,7 @@ fn whole_way(level: WayLevel) -> Result<Sequence<PredStep>, AllocError>
     with_last(done, step)
 }
 
-/// The name of the open step goes on.
+/// Adds one byte to the name of the open step.
 fn longer_way(level: WayLevel, byte: u8) -> Result<WayLevel, AllocError>
     ensures { IfOk result (λ longer. longer ≡ longer_way level byte) }
 {
@@ -134,6 +138,7 @@ fn longer_way(level: WayLevel, byte: u8) -> Result<WayLevel, AllocError>
     })
 }
 
+/// After a test of a way: its name goes on, a slash, or what may follow a body.
 fn in_way(level: WayLevel, byte: u8) -> Result<Option<Next>, AllocError>
     ensures { IfOk result (λ next. next ≡ choose (inside_rows [] (Inside.InWay level)) byte) }
 {
@@ -147,24 +152,26 @@ fn in_way(level: WayLevel, byte: u8) -> Result<Option<Next>, AllocError>
                 way: whole_way(level)?,
                 attribute: None,
             };
-            Ok(behind_body(body, byte))
+            Ok(after_body(body, byte))
         }
         _ => Ok(None),
     }
 }
 
+/// After a way and one slash: a second slash, an attribute, or the next test.
 fn way_slash(alloc: Global, way: Sequence<PredStep>, byte: u8) -> Result<Option<Next>, AllocError>
     ensures { IfOk result (λ next. next ≡ choose (inside_rows [] (Inside.WaySlash way)) byte) }
 {
     match byte {
         b'/' => Ok(Some(Next::More(Inside::WaySlashes(way)))),
-        b'@' => Ok(Some(Next::More(Inside::BehindAt(way)))),
+        b'@' => Ok(Some(Next::More(Inside::AfterAt(way)))),
         _ => way_step(alloc, way, Axis::Child, byte),
     }
 }
 
-fn behind_at(alloc: Global, way: Sequence<PredStep>, byte: u8) -> Result<Option<Next>, AllocError>
-    ensures { IfOk result (λ next. next ≡ choose (inside_rows [] (Inside.BehindAt way)) byte) }
+/// After `@`: the first byte of the attribute's name.
+fn after_at(alloc: Global, way: Sequence<PredStep>, byte: u8) -> Result<Option<Next>, AllocError>
+    ensures { IfOk result (λ next. next ≡ choose (inside_rows [] (Inside.AfterAt way)) byte) }
 {
     if !may_begin_name(byte) {
         return Ok(None);
@@ -172,6 +179,7 @@ fn behind_at(alloc: Global, way: Sequence<PredStep>, byte: u8) -> Result<Option<
     Ok(Some(Next::More(Inside::InAttribute(way, only(alloc, byte)?))))
 }
 
+/// In an attribute's name: one more byte, or what may follow a body.
 fn in_attribute(way: Sequence<PredStep>, name: Name, byte: u8) -> Result<Option<Next>, AllocError>
     ensures { IfOk result (λ next. next ≡
         choose (inside_rows [] (Inside.InAttribute way name)) byte) }
@@ -183,9 +191,10 @@ fn in_attribute(way: Sequence<PredStep>, name: Name, byte: u8) -> Result<Option<
         way,
         attribute: Some(name),
     };
-    Ok(behind_body(body, byte))
+    Ok(after_body(body, byte))
 }
 
+/// After `!`: the `=` of `!=`.
 fn exclamation(body: Body, byte: u8) -> Option<Next>
     ensures { result ≡ choose (inside_rows [] (Inside.Exclamation body)) byte }
 {
@@ -195,25 +204,27 @@ fn exclamation(body: Body, byte: u8) -> Option<Next>
     with_sign(body, Op::Ne)
 }
 
+/// After `<`: the `=` of `<=`, or what may follow `<`.
 fn less(alloc: Global, body: Body, byte: u8) -> Option<Next>
     ensures { result ≡ choose (inside_rows [] (Inside.Less body)) byte }
 {
     if byte == b'=' {
         return with_sign(body, Op::Le);
     }
-    operand::behind_sign(alloc, Compared { body, op: Op::Lt }, byte)
+    operand::after_sign(alloc, Compared { body, op: Op::Lt }, byte)
 }
 
+/// After `>`: the `=` of `>=`, or what may follow `>`.
 fn greater(alloc: Global, body: Body, byte: u8) -> Option<Next>
     ensures { result ≡ choose (inside_rows [] (Inside.Greater body)) byte }
 {
     if byte == b'=' {
         return with_sign(body, Op::Ge);
     }
-    operand::behind_sign(alloc, Compared { body, op: Op::Gt }, byte)
+    operand::after_sign(alloc, Compared { body, op: Op::Gt }, byte)
 }
 
-/// Takes a byte in a predicate. None where it is refused.
+/// The result of one more byte in a predicate. `None` where the byte is refused.
 pub fn take(
     inside: Inside,
     alloc: Global,
@@ -229,13 +240,13 @@ pub fn take(
         Inside::InWay(level) => in_way(level, byte),
         Inside::WaySlash(way) => way_slash(alloc, way, byte),
         Inside::WaySlashes(way) => way_step(alloc, way, Axis::Descendant, byte),
-        Inside::BehindAt(way) => behind_at(alloc, way, byte),
+        Inside::AfterAt(way) => after_at(alloc, way, byte),
         Inside::InAttribute(way, name) => in_attribute(way, name, byte),
-        Inside::BehindBody(body) => Ok(behind_body(body, byte)),
+        Inside::AfterBody(body) => Ok(after_body(body, byte)),
         Inside::Exclamation(body) => Ok(exclamation(body, byte)),
         Inside::Less(body) => Ok(less(alloc, body, byte)),
         Inside::Greater(body) => Ok(greater(alloc, body, byte)),
-        Inside::BehindSign(compared) => Ok(operand::behind_sign(alloc, compared, byte)),
+        Inside::AfterSign(compared) => Ok(operand::after_sign(alloc, compared, byte)),
         Inside::InLiteral(compared, quote, bytes) => operand::in_literal(
             compared, quote, bytes, byte,
         ),
@@ -244,6 +255,6 @@ pub fn take(
         Inside::LetterU(compared) => Ok(operand::letter_u(compared, byte)),
         Inside::LettersUs(compared) => Ok(operand::letters_us(compared, byte)),
         Inside::LettersUse(compared) => operand::letters_use(alloc, compared, user, byte),
-        Inside::BehindOperand(pred) => Ok(operand::behind_operand(pred, byte)),
+        Inside::AfterOperand(pred) => Ok(operand::after_operand(pred, byte)),
     }
 }

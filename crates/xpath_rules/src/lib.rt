@@ -1,4 +1,4 @@
-//! Paths, read and written exactly as their grammar says.
+//! Reads and writes paths of access rules, exactly as their grammar says, and counts their steps and predicates.
 #![tactic(auto)]
 
 mod inside;

@@ -1,8 +1,8 @@
-//! How a reader goes on in a path: a state takes a byte, and the last state gives the path.
+//! The state machine outside predicates: a state takes a byte, and the last state gives the path.
 
 ghost use Rattle.std.specs.Prelude.{◌≡◌, [], Some, IfOk};
-ghost use Rattle.xpath_rules.specs.Machine.{choose, test_rows, path_rows, path_step, whole_steps, goes_on};
-ghost use Rattle.xpath_rules.specs.Machine.{longer_step, with_pred, state_behind, step, path_at_end};
+ghost use Rattle.xpath_rules.specs.PathMachine.{choose, test_rows, path_rows, path_step, whole_steps, goes_on};
+ghost use Rattle.xpath_rules.specs.PathMachine.{longer_step, with_pred, state_after, step, path_at_end};
 
 use crate::lists::with_last;
 use crate::state::{Inside, Level, Next, State};
@@ -10,7 +10,7 @@ use crate::{inside, name_test};
 use acl_model::{Axis, Path, Pred, Sequence, Step, may_continue_name};
 use std::alloc::{AllocError, Global};
 
-/// A step begins with this byte.
+/// The state after the first byte of a step's test. `None` where the byte begins none.
 fn path_step(
     alloc: Global,
     done: Sequence<Step>,
@@ -29,25 +29,27 @@ fn path_step(
     })))
 }
 
+/// A path begins with a slash.
 fn start(alloc: Global, byte: u8) -> Option<State>
     ensures { result ≡ choose (path_rows State.Start) byte }
 {
     if byte != b'/' {
         return None;
     }
-    Some(State::BehindSlash(Sequence::new(alloc)))
+    Some(State::AfterSlash(Sequence::new(alloc)))
 }
 
-fn behind_slash(alloc: Global, done: Sequence<Step>, byte: u8) -> Result<Option<State>, AllocError>
-    ensures { IfOk result (λ next. next ≡ choose (path_rows (State.BehindSlash done)) byte) }
+/// After the first slash of a step: a second slash, or the first byte of its test.
+fn after_slash(alloc: Global, done: Sequence<Step>, byte: u8) -> Result<Option<State>, AllocError>
+    ensures { IfOk result (λ next. next ≡ choose (path_rows (State.AfterSlash done)) byte) }
 {
     if byte == b'/' {
-        return Ok(Some(State::BehindSlashes(done)));
+        return Ok(Some(State::AfterSlashes(done)));
     }
     path_step(alloc, done, Axis::Child, byte)
 }
 
-/// All steps, once the open one is whole.
+/// All steps, including the open one.
 fn whole_steps(level: Level) -> Result<Sequence<Step>, AllocError>
     ensures { IfOk result (λ steps. steps ≡ whole_steps level) }
 {
@@ -55,14 +57,14 @@ fn whole_steps(level: Level) -> Result<Sequence<Step>, AllocError>
     with_last(done, step)
 }
 
-/// Whether the step is a name that may still go on.
+/// Whether one more byte may continue the step's name.
 fn goes_on(step: &Step) -> bool
     ensures { result ≡ goes_on step.now }
 {
     name_test::has_room(&step.test) && step.preds.is_empty()
 }
 
-/// The name of the open step goes on.
+/// Adds one byte to the name of the open step.
 fn longer_step(level: Level, byte: u8) -> Result<Level, AllocError>
     ensures { IfOk result (λ longer. longer ≡ longer_step level byte) }
 {
@@ -77,6 +79,7 @@ fn longer_step(level: Level, byte: u8) -> Result<Level, AllocError>
     })
 }
 
+/// After a test or a predicate: the name goes on, or the next step or a predicate begins.
 fn in_step(level: Level, byte: u8) -> Result<Option<State>, AllocError>
     ensures { IfOk result (λ next. next ≡ choose (path_rows (State.InStep level)) byte) }
 {
@@ -84,13 +87,13 @@ fn in_step(level: Level, byte: u8) -> Result<Option<State>, AllocError>
         return Ok(Some(State::InStep(longer_step(level, byte)?)));
     }
     match byte {
-        b'/' => Ok(Some(State::BehindSlash(whole_steps(level)?))),
+        b'/' => Ok(Some(State::AfterSlash(whole_steps(level)?))),
         b'[' => Ok(Some(State::InPredicate(level, Inside::Open))),
         _ => Ok(None),
     }
 }
 
-/// The open step has one more predicate.
+/// Adds a predicate to the open step.
 fn with_pred(level: Level, pred: Pred) -> Result<Level, AllocError>
     ensures { IfOk result (λ longer. longer ≡ with_pred level pred) }
 {
@@ -105,9 +108,9 @@ fn with_pred(level: Level, pred: Pred) -> Result<Level, AllocError>
     })
 }
 
-/// Where the path stands once its predicate took a byte.
-fn state_behind(level: Level, next: Next) -> Result<State, AllocError>
-    ensures { IfOk result (λ state. state ≡ state_behind level next) }
+/// The state of the path after a byte in a predicate.
+fn state_after(level: Level, next: Next) -> Result<State, AllocError>
+    ensures { IfOk result (λ state. state ≡ state_after level next) }
 {
     match next {
         Next::More(inside) => Ok(State::InPredicate(level, inside)),
@@ -116,32 +119,32 @@ fn state_behind(level: Level, next: Next) -> Result<State, AllocError>
 }
 
 impl State {
-    /// Takes a byte. None where it is refused.
+    /// The state after one more byte. `None` where the byte is refused.
     pub fn take(self, alloc: Global, user: &[u8], byte: u8) -> Result<Option<State>, AllocError>
         ensures { IfOk result (λ next. next ≡ step user.now self byte) }
     {
         match self {
             State::Start => Ok(start(alloc, byte)),
-            State::BehindSlash(done) => behind_slash(alloc, done, byte),
-            State::BehindSlashes(done) => path_step(alloc, done, Axis::Descendant, byte),
+            State::AfterSlash(done) => after_slash(alloc, done, byte),
+            State::AfterSlashes(done) => path_step(alloc, done, Axis::Descendant, byte),
             State::InStep(level) => in_step(level, byte),
             State::InPredicate(level, inside) => {
                 let Some(next) = inside::take(inside, alloc, user, byte)? else {
                     return Ok(None);
                 };
-                Ok(Some(state_behind(level, next)?))
+                Ok(Some(state_after(level, next)?))
             }
         }
     }
 
-    /// The path that ends here. None where none does.
+    /// The path that ends in this state. `None` where none does.
     pub fn finish(self) -> Result<Option<Path>, AllocError>
         ensures { IfOk result (λ path. path ≡ path_at_end self) }
     {
         match self {
             State::Start => Ok(None),
-            State::BehindSlash(_) => Ok(None),
-            State::BehindSlashes(_) => Ok(None),
+            State::AfterSlash(_) => Ok(None),
+            State::AfterSlashes(_) => Ok(None),
             State::InStep(level) => Ok(Some(Path {
                 steps: whole_steps(level)?,
             })),

@@ -1,14 +1,14 @@
-//! Name tests, byte by byte.
+//! Name tests (a name or `*`), read byte by byte.
 
 ghost use Rattle.std.specs.Prelude.{◌≡◌, IfOk};
-ghost use Rattle.xpath_rules.specs.Machine.{choose, test_rows, longer_test, has_room};
+ghost use Rattle.xpath_rules.specs.PathMachine.{choose, test_rows, longer_test, has_room};
 
 use crate::lists::{only, with_last};
 use acl_model::limits::MOST_NAME_BYTES;
 use acl_model::{Test, may_begin_name};
 use std::alloc::{AllocError, Global};
 
-/// The test that begins with this byte.
+/// The test that begins with this byte. `None` where none does.
 pub fn first_test(alloc: Global, byte: u8) -> Result<Option<Test>, AllocError>
     ensures { IfOk result (λ test. test ≡ choose (test_rows (λ t. t)) byte) }
 {
@@ -21,7 +21,7 @@ pub fn first_test(alloc: Global, byte: u8) -> Result<Option<Test>, AllocError>
     Ok(Some(Test::Named(only(alloc, byte)?)))
 }
 
-/// Whether the test is a name that may still go on.
+/// Whether the test is a name of fewer than 255 bytes.
 pub fn has_room(test: &Test) -> bool
     ensures { result ≡ has_room test.now }
 {
@@ -31,7 +31,7 @@ pub fn has_room(test: &Test) -> bool
     }
 }
 
-/// The test with one more byte to its name.
+/// The test with one more byte at the end of its name.
 pub fn longer(test: Test, byte: u8) -> Result<Test, AllocError>
     ensures { IfOk result (λ test'. test' ≡ longer_test test byte) }
 {

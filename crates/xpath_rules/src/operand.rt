@@ -1,9 +1,9 @@
-//! How a reader goes on in a comparison, from behind its sign: literals, numbers and `USER`.
+//! The state machine after a comparison operator: literals, numbers and `USER`.
 
 ghost use Rattle.std.specs.Prelude.{◌≡◌, [], ◌∷◌, IfOk, IsTrue};
 ghost use Rattle.std.specs.Char.{is_ascii_digit};
-ghost use Rattle.xpath_rules.specs.Machine.{choose, some, one_digit, operand_rows, closing_rows, inside_rows};
-ghost use Rattle.xpath_rules.specs.Machine.{compared_pred, takes_digit, longer_digits, number};
+ghost use Rattle.xpath_rules.specs.PathMachine.{choose, some, one_digit, operand_rows, closing_rows, inside_rows};
+ghost use Rattle.xpath_rules.specs.PathMachine.{compared_pred, takes_digit, longer_digits, number};
 
 use crate::lists::with_last;
 use crate::quote::Quote;
@@ -12,13 +12,13 @@ use acl_model::limits::{MOST_DIGITS, MOST_LITERAL_BYTES};
 use acl_model::{Bytes, Cmp, Operand, Pred, Sequence};
 use std::alloc::{AllocError, Global};
 
-/// 10^17: fewer than 18 digits are below it.
+/// 10^17. Each number of fewer than 18 digits is below it.
 const SEVENTEEN_ZEROS: u64 = 100_000_000_000_000_000;
 
 /// The greatest number of 18 digits.
 const GREATEST: u64 = 999_999_999_999_999_999;
 
-/// The predicate that ends with this operand.
+/// The predicate with this body, operator and operand.
 fn compared_pred(c: Compared, operand: Operand) -> Pred
     ensures { result ≡ compared_pred c operand }
 {
@@ -33,17 +33,18 @@ fn compared_pred(c: Compared, operand: Operand) -> Pred
     }
 }
 
-pub fn behind_operand(pred: Pred, byte: u8) -> Option<Next>
+/// After an operand: a space, or the end of the predicate.
+pub fn after_operand(pred: Pred, byte: u8) -> Option<Next>
     ensures { result ≡ choose (closing_rows pred) byte }
 {
     match byte {
-        b' ' => Some(Next::More(Inside::BehindOperand(pred))),
+        b' ' => Some(Next::More(Inside::AfterOperand(pred))),
         b']' => Some(Next::Whole(pred)),
         _ => None,
     }
 }
 
-/// The first digit of a number.
+/// Begins a number with its first digit. `None` where the byte is no digit.
 fn first_digit(c: Compared, negative: bool, byte: u8) -> Option<Next>
     ensures { result ≡ choose
         (some is_ascii_digit (λ b. Next.More (Inside.InNumber c (one_digit negative b))) ∷ []) byte }
@@ -60,11 +61,12 @@ fn first_digit(c: Compared, negative: bool, byte: u8) -> Option<Next>
     Some(Next::More(Inside::InNumber(c, digits)))
 }
 
-pub fn behind_sign(alloc: Global, c: Compared, byte: u8) -> Option<Next>
+/// After a comparison operator: a space, or the first byte of an operand.
+pub fn after_sign(alloc: Global, c: Compared, byte: u8) -> Option<Next>
     ensures { result ≡ choose (operand_rows c) byte }
 {
     match byte {
-        b' ' => Some(Next::More(Inside::BehindSign(c))),
+        b' ' => Some(Next::More(Inside::AfterSign(c))),
         b'"' => Some(Next::More(Inside::InLiteral(c, Quote::Double, Sequence::new(alloc)))),
         b'\'' => Some(Next::More(Inside::InLiteral(c, Quote::Single, Sequence::new(alloc)))),
         b'-' => Some(Next::More(Inside::Minus(c))),
@@ -73,6 +75,7 @@ pub fn behind_sign(alloc: Global, c: Compared, byte: u8) -> Option<Next>
     }
 }
 
+/// In a literal: its end, or one more byte.
 pub fn in_literal(
     c: Compared,
     quote: Quote,
@@ -83,7 +86,7 @@ pub fn in_literal(
         choose (inside_rows [] (Inside.InLiteral c quote bytes)) byte) }
 {
     if byte == quote.byte() {
-        return Ok(Some(Next::More(Inside::BehindOperand(compared_pred(c, Operand::Text(bytes))))));
+        return Ok(Some(Next::More(Inside::AfterOperand(compared_pred(c, Operand::Text(bytes))))));
     }
     if byte == b'\n' || bytes.len() >= MOST_LITERAL_BYTES {
         return Ok(None);
@@ -91,20 +94,21 @@ pub fn in_literal(
     Ok(Some(Next::More(Inside::InLiteral(c, quote, with_last(bytes, byte)?))))
 }
 
+/// After `-`: the first digit of a number.
 pub fn minus(c: Compared, byte: u8) -> Option<Next>
     ensures { result ≡ choose (inside_rows [] (Inside.Minus c)) byte }
 {
     first_digit(c, true, byte)
 }
 
-/// Whether there may be one more digit.
+/// Whether one more digit may follow.
 fn takes_digit(digits: Digits) -> bool
     ensures { result ≡ takes_digit digits }
 {
     digits.count < MOST_DIGITS && digits.value < SEVENTEEN_ZEROS
 }
 
-/// The digits with one more.
+/// The number with one more digit at its end.
 fn longer(digits: Digits, byte: u8) -> Digits
     requires room { IsTrue (takes_digit digits) }
     requires digit { IsTrue (is_ascii_digit byte) }
@@ -117,7 +121,7 @@ fn longer(digits: Digits, byte: u8) -> Digits
     }
 }
 
-/// The number that the digits are.
+/// The operand for these digits.
 fn number(digits: Digits) -> Operand
     ensures { result ≡ number digits }
 {
@@ -128,15 +132,17 @@ fn number(digits: Digits) -> Operand
     Operand::Number(value)
 }
 
+/// In a number: one more digit, or what may follow an operand.
 pub fn in_number(c: Compared, digits: Digits, byte: u8) -> Option<Next>
     ensures { result ≡ choose (inside_rows [] (Inside.InNumber c digits)) byte }
 {
     if byte.is_ascii_digit() && takes_digit(digits) {
         return Some(Next::More(Inside::InNumber(c, longer(digits, byte))));
     }
-    behind_operand(compared_pred(c, number(digits)), byte)
+    after_operand(compared_pred(c, number(digits)), byte)
 }
 
+/// After `U`: the `S` of `USER`.
 pub fn letter_u(c: Compared, byte: u8) -> Option<Next>
     ensures { result ≡ choose (inside_rows [] (Inside.LetterU c)) byte }
 {
@@ -146,6 +152,7 @@ pub fn letter_u(c: Compared, byte: u8) -> Option<Next>
     Some(Next::More(Inside::LettersUs(c)))
 }
 
+/// After `US`: the `E` of `USER`.
 pub fn letters_us(c: Compared, byte: u8) -> Option<Next>
     ensures { result ≡ choose (inside_rows [] (Inside.LettersUs c)) byte }
 {
@@ -155,6 +162,7 @@ pub fn letters_us(c: Compared, byte: u8) -> Option<Next>
     Some(Next::More(Inside::LettersUse(c)))
 }
 
+/// After `USE`: the `R` of `USER`.
 pub fn letters_use(
     alloc: Global,
     c: Compared,
@@ -168,5 +176,5 @@ pub fn letters_use(
         return Ok(None);
     }
     let user = Bytes::from_slice(alloc, user)?;
-    Ok(Some(Next::More(Inside::BehindOperand(compared_pred(c, Operand::User(user))))))
+    Ok(Some(Next::More(Inside::AfterOperand(compared_pred(c, Operand::User(user))))))
 }

@@ -5,13 +5,13 @@ ghost use Rattle.xpath_rules.specs.declared.path_error.PathError.TheVariants.{No
 
 use std::alloc::AllocError;
 
-/// What `read_path` answers in place of a path.
+/// The error of `read_path`.
 #[derive(Debug, Clone, Copy, PartialEq, Eq)]
 pub enum PathError {
-    /// The bytes are no path, or there are more than 1,024. `at` is the length of the longest front
+    /// The bytes are no path, or there are more than 1,024. `at` is the length of the longest prefix
     /// that some text of the grammar begins with, or 1,024 where that is more.
     Fault { at: u32 },
-    /// There was no memory for the path.
+    /// Out of memory.
     NoMemory,
 }
 

@@ -2,7 +2,7 @@
 
 ghost use Rattle.std.specs.Prelude.{◌≡◌};
 
-/// Which of the two quotes stands round a literal (XPath 1.0, 3.7).
+/// Which of the two quotes encloses a literal (XPath 1.0, 3.7).
 #[derive(Clone, Copy)]
 pub enum Quote {
     /// `"`
@@ -14,6 +14,7 @@ pub enum Quote {
 impl Quote {
     ghost use Rattle.xpath_rules.specs.Grammar.{quote_byte};
 
+    /// The byte of the quote.
     pub fn byte(self) -> u8
         ensures { result ≡ quote_byte self }
     {

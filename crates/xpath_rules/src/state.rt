@@ -1,91 +1,92 @@
-//! What a reader of a path knows behind each byte: the steps so far, the step that is open, and
-//! where it stands in a predicate of that step.
+//! The states of the machine that reads a path: the steps so far, the step that is open, and the
+//! position in a predicate of that step. A step is *open* while more of its bytes may come. A *way*
+//! is the path of a predicate, relative to the context node.
 
 use crate::quote::Quote;
 use acl_model::{Bytes, Cmp, Name, Op, Pred, PredStep, Sequence, Step};
 
-/// Where a reader stands in a path.
+/// The position in a path.
 #[derive(Drop)]
 pub enum State {
     /// Before the first byte.
     Start,
-    /// Behind the first slash of a step.
-    BehindSlash(Sequence<Step>),
-    /// Behind `//`.
-    BehindSlashes(Sequence<Step>),
-    /// Behind a step's test, whose name may go on, or behind one of its predicates.
+    /// After the first slash of a step.
+    AfterSlash(Sequence<Step>),
+    /// After `//`.
+    AfterSlashes(Sequence<Step>),
+    /// After a step's test, whose name may continue, or after one of its predicates.
     InStep(Level),
     /// In a predicate of a step.
     InPredicate(Level, Inside),
 }
 
-/// The steps before the one that is open, and that one.
+/// The steps before the open one, and the open one.
 #[derive(Drop)]
 pub struct Level {
     pub done: Sequence<Step>,
     pub step: Step,
 }
 
-/// Where a reader stands in a predicate.
+/// The position in a predicate.
 #[derive(Drop)]
 pub enum Inside {
-    /// Behind `[`, and perhaps spaces.
+    /// After `[` and any number of spaces.
     Open,
-    /// Directly behind `.`.
+    /// Directly after `.`.
     Dot,
-    /// Behind `./`.
+    /// After `./`.
     DotSlash,
-    /// Directly behind a test of a way, whose name may go on.
+    /// Directly after a test of a way, whose name may continue.
     InWay(WayLevel),
-    /// Behind a way and one slash.
+    /// After a way and one slash.
     WaySlash(Sequence<PredStep>),
-    /// Behind a way and `//`, or behind `.//`.
+    /// After a way and `//`, or after `.//`.
     WaySlashes(Sequence<PredStep>),
-    /// Behind the `@` of the attribute.
-    BehindAt(Sequence<PredStep>),
-    /// In the attribute's name, which may go on.
+    /// After the `@` of the attribute.
+    AfterAt(Sequence<PredStep>),
+    /// In the attribute's name, which may continue.
     InAttribute(Sequence<PredStep>, Name),
-    /// Behind a body and at least one space.
-    BehindBody(Body),
-    /// Behind `!`.
+    /// After a body and at least one space.
+    AfterBody(Body),
+    /// After `!`.
     Exclamation(Body),
-    /// Behind `<`.
+    /// After `<`.
     Less(Body),
-    /// Behind `>`.
+    /// After `>`.
     Greater(Body),
-    /// Behind a sign, before its operand.
-    BehindSign(Compared),
+    /// After a comparison operator, before its operand.
+    AfterSign(Compared),
     /// In a literal.
     InLiteral(Compared, Quote, Bytes),
-    /// Behind `-`.
+    /// After `-`.
     Minus(Compared),
     /// In a number.
     InNumber(Compared, Digits),
-    /// Behind `U`.
+    /// After `U`.
     LetterU(Compared),
-    /// Behind `US`.
+    /// After `US`.
     LettersUs(Compared),
-    /// Behind `USE`.
+    /// After `USE`.
     LettersUse(Compared),
-    /// Behind an operand, and perhaps spaces.
-    BehindOperand(Pred),
+    /// After an operand and any number of spaces.
+    AfterOperand(Pred),
 }
 
-/// The steps of a way before the one that is open, and that one.
+/// The steps of a way before the open one, and the open one.
 #[derive(Drop)]
 pub struct WayLevel {
     pub done: Sequence<PredStep>,
     pub step: PredStep,
 }
 
-/// The body of a predicate.
+/// The body of a predicate: its path and its attribute, if it has one.
 #[derive(Drop)]
 pub struct Body {
     pub way: Sequence<PredStep>,
     pub attribute: Option<Name>,
 }
 
-/// The body of a predicate and the sign behind it.
+/// The body of a predicate and the comparison operator after it.
 #[derive(Drop)]
 pub struct Compared {
     pub body: Body,
@@ -100,11 +101,11 @@ pub struct Digits {
     pub value: u64,
 }
 
-/// What a byte in a predicate leads to.
+/// The result of a byte in a predicate.
 #[derive(Drop)]
 pub enum Next {
     /// The predicate goes on.
     More(Inside),
-    /// This was its last byte.
+    /// This byte was its last.
     Whole(Pred),
 }

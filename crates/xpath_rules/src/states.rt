@@ -2,28 +2,30 @@
 
 ghost use Rattle.std.specs.Prelude.{◌≡◌, ℕ, ◌≤◌, List, length, sum_by};
 ghost use Rattle.acl_model.specs.Limits.{most_path_bytes};
-ghost use Rattle.xpath_rules.specs.Answers.{CanBeRead};
+ghost use Rattle.xpath_rules.specs.PathAnswers.{CanBeRead};
 ghost use Rattle.xpath_rules.specs.Counting.{step_count, pred_count, way_test_count, pred_step_count, in_32_bits};
 
 use acl_model::{Path, Pred, Step};
 
-/// The counts of a path, each the greatest `u32` where it is above that.
+/// The counts of a path. Each saturates at the greatest `u32`.
 #[derive(Debug, Clone, Copy, PartialEq, Eq)]
 pub struct States {
     /// The steps of the path.
     pub steps: u32,
-    /// The tests of the ways of its predicates.
+    /// The tests in the paths of its predicates.
     pub pred_steps: u32,
     /// The predicates of its steps.
     pub preds: u32,
 }
 
+/// The count, or the greatest `u32` where it is above that.
 fn in_32_bits(count: usize) -> u32
     ensures { result ≡ in_32_bits count }
 {
     count.min(u32::MAX as usize) as u32
 }
 
+/// The predicates of these steps.
 fn count_preds(steps: &[Step]) -> u32
     ensures { result ≡ in_32_bits (sum_by (λ s. length s.preds) steps.now) }
 {
@@ -34,6 +36,7 @@ fn count_preds(steps: &[Step]) -> u32
     count
 }
 
+/// The tests in the paths of these predicates.
 fn count_way_tests(preds: &[Pred]) -> u32
     ensures { result ≡ in_32_bits (way_test_count preds.now) }
 {
@@ -44,6 +47,7 @@ fn count_way_tests(preds: &[Pred]) -> u32
     count
 }
 
+/// The tests in the paths of the predicates of these steps.
 fn count_pred_steps(steps: &[Step]) -> u32
     ensures { result ≡ in_32_bits (sum_by (λ s. way_test_count s.preds) steps.now) }
 {
@@ -54,13 +58,13 @@ fn count_pred_steps(steps: &[Step]) -> u32
     count
 }
 
-/// Counts what a path adds to the states of a licence or a query.
+/// Counts the steps, predicate steps and predicates of a path. Licences and queries have limits on their sums.
 pub fn count_states(path: &Path) -> States
     ensures steps { result.steps ≡ in_32_bits (step_count path.now) }
     ensures pred_steps { result.pred_steps ≡ in_32_bits (pred_step_count path.now) }
     ensures preds { result.preds ≡ in_32_bits (pred_count path.now) }
 
-    // For each path that was read these are the counts themselves.
+    // For each path that can be read the counts are exact.
     ensures exact_steps { (user : List ℕ) → CanBeRead user path.now
         → result.steps ≡ step_count path.now }
     ensures exact_pred_steps { (user : List ℕ) → CanBeRead user path.now

@@ -1,12 +1,12 @@
-//! Paths as bytes, each accepted form beside the nearest refused one. The canonical spellings and
-//! the places follow by hand from the grammar.
+//! Tables of paths: each accepted form with the nearest refused one. The canonical spellings and the
+//! offsets of faults were worked out by hand from the grammar.
 
 use super::*;
 use acl_model::{Axis, Bytes, Op, Operand, Path, Pred, Test};
 use std::alloc::{AllocError, Global};
 use std::test::Fail;
 
-// The place of the fault in the bytes, if they are no path for Ana.
+// The offset of the fault in the bytes, or `None` where they are a path for Ana.
 fn place(alloc: Global, bytes: &[u8]) -> Result<Option<u32>, Fail> {
     match read_path(alloc, bytes, b"Ana") {
         Ok(_) => Ok(None),
@@ -15,18 +15,18 @@ fn place(alloc: Global, bytes: &[u8]) -> Result<Option<u32>, Fail> {
     }
 }
 
-// The path that the bytes are for Ana.
+// The path that the bytes spell for Ana.
 fn path_of(alloc: Global, bytes: &[u8]) -> Result<Path, Fail> {
     Ok(read_path(alloc, bytes, b"Ana").ok().ok_or("no path")?)
 }
 
-// How the path that the bytes are is written.
+// The canonical spelling of the path that the bytes spell.
 fn rewritten(alloc: Global, bytes: &[u8]) -> Result<Bytes, Fail> {
     let path = path_of(alloc, bytes)?;
     Ok(write_path(alloc, &path).ok().ok_or("no memory")?)
 }
 
-// The parts, each so many times.
+// The parts, each repeated as often as its number says.
 fn repeated(alloc: Global, parts: &[(&[u8], u32)]) -> Result<Vec<u8>, AllocError> {
     let mut bytes = Vec::new(alloc);
     for (part, count) in parts {
@@ -37,7 +37,8 @@ fn repeated(alloc: Global, parts: &[(&[u8], u32)]) -> Result<Vec<u8>, AllocError
     Ok(bytes)
 }
 
-// Whether a row is told: what it shows, a path, bytes that are none, and the place of their fault, with `|` between them.
+// Checks a row, whose fields have `|` between them: its title, a path, bytes that are none, and the offset of their
+// fault.
 fn is_told(alloc: Global, row: &str) -> Result<bool, Fail> {
     let (_, rest) = row.split_once('|').ok_or("one field")?;
     let (path, rest) = rest.split_once('|').ok_or("two fields")?;
@@ -45,21 +46,21 @@ fn is_told(alloc: Global, row: &str) -> Result<bool, Fail> {
     are_told(alloc, path.as_bytes(), refused.as_bytes(), at.parse()?)
 }
 
-// Whether these are a path, and those none by a fault at a place.
+// Whether the first bytes are a path, and the others are refused at this offset.
 fn are_told(alloc: Global, path: &[u8], refused: &[u8], at: u32) -> Result<bool, Fail> {
     Ok(place(alloc, path)?.is_none() && place(alloc, refused)? == Some(at))
 }
 
 const STEPS: &str = "a path is not empty|/a||0
 a slash comes first|/Hospital|Hospital|0
-a test behind it|/a|/|1
-or behind two|//a|//|2
+a test after it|/a|/|1
+or after two|//a|//|2
 and not three|//a//b|///a|2
-also behind a step|/a/b//c|/a/|3
+also after a step|/a/b//c|/a/|3
 none is open at the end|/a//b|/a//|4
 no space before|/a| /a|0
 none in between|/a|/ a|1
-none behind|/a|/a |2
+none after|/a|/a |2
 a name goes on|/a-b.c:9_|/a+b|2
 it begins with a letter|/a.5|/.5|1
 or an underscore|/_5|/5|1
@@ -70,7 +71,7 @@ a star is a test|/*//*|/**|2
 a whole one|/*/a|/*a|2
 and in no name|/a/*|/a*|2
 no attribute is a step|/a[@b]|/@b|1
-nor behind one|/a[b/@c]|/a/@b|3
+nor after one|/a[b/@c]|/a/@b|3
 nor deep below one|/a[.//b/@c]|/a//@b|4
 a name ends at its predicate|/a[@b]/c|/a[@b]c|6";
 
@@ -87,24 +88,24 @@ it is not empty|/a[b]|/a[]|3
 a name is whole|/a[USERS]|/a[USER S]|8
 nor only spaces|/a[  b  ]|/a[  ]|5
 no other blank|/a[ b]|/a[\tb]|3
-it stands at its step|/a[b][c]|/a [b]|2
+it follows its step|/a[b][c]|/a [b]|2
 directly|/a[b][c]|/a[b] [c]|5
-one way|/a[b/c]|/a[b c]|5
+one path|/a[b/c]|/a[b c]|5
 it is relative|/a[b//c/*]|/a[/b]|3
 in both axes|/a[.//b]|/a[//b]|3
 it has a test last|/a[b/c]|/a[b/]|5
 no predicate in it|/a[b]|/a[b[c]]|4
 a dot goes deep|/a[.//*]|/a[./b]|5
-not behind a space|/a[ .//b]|/a[. //b]|5
+not after a space|/a[ .//b]|/a[. //b]|5
 to a test|/a[.//b]|/a[.//]|6
 a dot alone is compared|//a[.=1]|//a[.]|5
-also behind spaces|/a[ . = 1 ]|/a[ . ]|6
+also after spaces|/a[ . = 1 ]|/a[ . ]|6
 one dot|/a[.=1]|/a[..]|4
 an attribute has a name|/a[@b.c]|/a[@]|4
 no star|/a[@b]|/a[@*]|4
-directly behind|/a[ @b ]|/a[@ b]|4
+directly after|/a[ @b ]|/a[@ b]|4
 it ends the body|/a[@b]|/a[@b/c]|5
-also behind a way|/a[b/@c]|/a[b/@c/d]|7
+also after a path|/a[b/@c]|/a[b/@c/d]|7
 as an attribute of its end|/a[b/@c]|/a[b//@c]|6
 and no nearer|/a[.//b/@c]|/a[.//@c]|6
 one attribute|/a[b/c/@d]|/a[@b@c]|5";
@@ -125,7 +126,7 @@ greater|/a[b> 1]|/a[b>>1]|5
 at least|/a[b >= 1]|/a[b => 1]|6
 a sign is whole|/a[b!=1]|/a[b!1]|5
 an operand is there|//a[b = 1]|//a[b = ]|8
-it is no way|/a[b='c']|/a[b=c]|5
+it is no path|/a[b='c']|/a[b=c]|5
 on the right|/a[b=1]|/a[1=b]|3
 one comparison|/a[b=1]|/a[b=1=1]|6
 a body is compared|/a[@b='c']|/a['c']|3
@@ -137,7 +138,7 @@ nor two|/a[US=USER]|/a[b=US]|7
 a digit|/a[b=0]|/a[b=]|5
 zeros before it|/a[b=0090]|/a[b=0 90]|7
 less than nothing|/a[b=-07]|/a[b=--7]|6
-a digit behind a minus|/a[b= -7]|/a[b=- 7]|6
+a digit after a minus|/a[b= -7]|/a[b=- 7]|6
 nothing is not negative|/a[b=-0]|/a[b=-]|6
 with zeros too|/a[b!=-000]|/a[b=+0]|5
 a whole number|/a[b=15]|/a[b=1.5]|6
@@ -162,7 +163,7 @@ the other inside|//a[ b = 'x\"y' ]|//a[b='x'y']|9
 both ways|/a[b=\"x'y\"]|/a[b=\"x\"y\"]|8
 spaces are kept|/a[b= ' x ' ]|/a[b=' x ' ']|11
 brackets too|/a[b=']/[']|/a[b=']|7
-no word inside|/a[b='USER']|/a[b='USER]|11
+no keyword inside|/a[b='USER']|/a[b='USER]|11
 no number inside|/a[b='007']|/a[b='007]|10";
 
 #[test]
@@ -177,7 +178,7 @@ fn literals_stand_between_equal_quotes(rt: HostRuntime) -> Result<(), Fail> {
 fn names_and_literals_have_bytes_that_are_no_text(rt: HostRuntime) -> Result<(), Fail> {
     let rows: [(&str, &[u8], &[u8], u32); 3] = [
         ("or a byte from 128 on", b"/\x80\xff", b"/\x7f", 1),
-        ("spaces stand behind", b"/a[b ]", b"/a[b\n]", 4),
+        ("spaces come after", b"/a[b ]", b"/a[b\n]", 4),
         ("any byte", b"/a[b='\x00\xff\r']", b"/a[b='\x00\n']", 7),
     ];
     for (what, path, refused, at) in rows {
@@ -188,14 +189,14 @@ fn names_and_literals_have_bytes_that_are_no_text(rt: HostRuntime) -> Result<(),
     Ok(())
 }
 
-// Whether a path is written in this spelling, and what is so spelled as well.
+// Whether a path is written in this spelling, and the spelling itself is written unchanged.
 fn is_written_as(alloc: Global, path: &[u8], wanted: &[u8]) -> Result<bool, Fail> {
     let canonical = rewritten(alloc, path)?;
     let again = rewritten(alloc, wanted)?;
     Ok(canonical.as_slice() == wanted && again.as_slice() == wanted)
 }
 
-// The same of a row: a path, `|` and how it is written.
+// Checks a row: a path, `|`, and its canonical spelling.
 fn is_written_as_told(alloc: Global, row: &str) -> Result<bool, Fail> {
     let (path, wanted) = row.split_once('|').ok_or("one field")?;
     is_written_as(alloc, path.as_bytes(), wanted.as_bytes())
@@ -245,7 +246,7 @@ fn a_path_is_written_without_what_its_spelling_adds(rt: HostRuntime) -> Result<(
 }
 
 #[test]
-fn a_path_ends_behind_a_step_alone(rt: HostRuntime) -> Result<(), Fail> {
+fn a_path_ends_after_a_step_alone(rt: HostRuntime) -> Result<(), Fail> {
     let text = b"//a[ .//b/@c != 'x' ]/*[. <= -10]";
     for end in 0..text.len() {
         let whole = end == 3 || end == 21 || end == 23;
@@ -273,10 +274,10 @@ fn names_and_literals_have_at_most_255_bytes(rt: HostRuntime) -> Result<(), Fail
         (b"/a[b='", b"']"),
         (b"/a[b=\"", b"\"]"),
     ];
-    for (before, behind) in rows {
-        let path = repeated(alloc, &[(before, 1), (b"n", 255), (behind, 1)])?;
+    for (before, after) in rows {
+        let path = repeated(alloc, &[(before, 1), (b"n", 255), (after, 1)])?;
         assert_eq!(rt; place(alloc, path.as_slice())?, None);
-        let longer = repeated(alloc, &[(before, 1), (b"n", 256), (behind, 1)])?;
+        let longer = repeated(alloc, &[(before, 1), (b"n", 256), (after, 1)])?;
         assert_eq!(rt;
             place(alloc, longer.as_slice())?,
             Some(before.len() as u32 + 255)
@@ -304,7 +305,7 @@ fn a_path_has_at_most_1024_bytes(rt: HostRuntime) -> Result<(), Fail> {
     let rows: [(&str, &[u8]); 4] = [
         ("one more slash", b"/"),
         ("one more step", b"/n"),
-        ("a fault behind the 1,025th byte", b"/]"),
+        ("a fault after the 1,025th byte", b"/]"),
         ("a fault at the 1,025th byte", b"n"),
     ];
     for (what, more) in rows {
@@ -368,7 +369,7 @@ fn is_named(test: &Test, wanted: &[u8]) -> bool {
     }
 }
 
-// Whether the operand is this literal, or the user with these bytes.
+// Whether the operand is this literal, or the user with these bytes, and no number.
 fn is_compared_with(pred: &Pred, literal: &[u8], of_user: &[u8]) -> bool {
     let Some(cmp) = &pred.cmp else {
         return false;

@@ -1,13 +1,13 @@
-//! Writes paths in their canonical spelling: a function for each rule of the grammar.
+//! Writes paths in their canonical spelling. There is a function for each rule of the grammar.
 
 ghost use Rattle.std.specs.Prelude.{◌≡◌, ℕ, List, nat_eq, not, map, flat_map, IfOk};
 ghost use Rattle.std.specs.List.{list_all};
 ghost use Rattle.std.specs.Option.{option_map};
 ghost use Rattle.acl_model.specs.declared.path.Operand.TheVariants.{Text};
-ghost use Rattle.xpath_rules.specs.Reading.{Spells};
-ghost use Rattle.xpath_rules.specs.Answers.{CanBeRead};
-ghost use Rattle.xpath_rules.specs.Machine.{read_path_of};
-ghost use Rattle.xpath_rules.specs.Marks.{quotation_mark};
+ghost use Rattle.xpath_rules.specs.PathReading.{Spells};
+ghost use Rattle.xpath_rules.specs.PathAnswers.{CanBeRead};
+ghost use Rattle.xpath_rules.specs.PathMachine.{read_path_of};
+ghost use Rattle.xpath_rules.specs.PathBytes.{quotation_mark};
 ghost use Rattle.xpath_rules.specs.Grammar.{slash_text, test_text, lead_text, further_text, way_text, body_text};
 ghost use Rattle.xpath_rules.specs.Grammar.{sign_text, operand_text, cmp_text, pred_text, step_text, path_text};
 ghost use Rattle.xpath_rules.specs.Canonical.{AddsText, quote_for, canonical_operand, canonical_cmp, canonical_pred};
@@ -19,6 +19,7 @@ use acl_outside::NoMemory;
 use itoa::Buffer;
 use std::alloc::{AllocError, Global};
 
+/// Writes `/` or `//`.
 fn write_slash(axis: Axis, out: &mut Vec<u8>) -> Result<(), AllocError>
     ensures { AddsText result out.old.items out.new.items (slash_text axis) }
 {
@@ -28,6 +29,7 @@ fn write_slash(axis: Axis, out: &mut Vec<u8>) -> Result<(), AllocError>
     }
 }
 
+/// Writes a name or `*`.
 fn write_test(test: &Test, out: &mut Vec<u8>) -> Result<(), AllocError>
     ensures { AddsText result out.old.items out.new.items (test_text test.now) }
 {
@@ -37,6 +39,7 @@ fn write_test(test: &Test, out: &mut Vec<u8>) -> Result<(), AllocError>
     }
 }
 
+/// Writes what comes before the first test of a predicate's path.
 fn write_lead(axis: Axis, out: &mut Vec<u8>) -> Result<(), AllocError>
     ensures { AddsText result out.old.items out.new.items (lead_text axis) }
 {
@@ -46,7 +49,7 @@ fn write_lead(axis: Axis, out: &mut Vec<u8>) -> Result<(), AllocError>
     }
 }
 
-/// The steps of a way behind the first.
+/// Writes the steps of a predicate's path after the first.
 fn write_further(steps: &[PredStep], out: &mut Vec<u8>) -> Result<(), AllocError>
     ensures { AddsText result out.old.items out.new.items (flat_map further_text steps.now) }
 {
@@ -57,6 +60,7 @@ fn write_further(steps: &[PredStep], out: &mut Vec<u8>) -> Result<(), AllocError
     Ok(())
 }
 
+/// Writes a predicate's path, or nothing where it has none.
 fn write_way(way: &[PredStep], out: &mut Vec<u8>) -> Result<(), AllocError>
     ensures { AddsText result out.old.items out.new.items (way_text way.now) }
 {
@@ -70,6 +74,7 @@ fn write_way(way: &[PredStep], out: &mut Vec<u8>) -> Result<(), AllocError>
     }
 }
 
+/// Writes the body of a predicate: its path and its attribute, or `.`.
 fn write_body(
     way: &[PredStep],
     attribute: &Option<Name>,
@@ -91,6 +96,7 @@ fn write_body(
     }
 }
 
+/// Writes a comparison operator.
 fn write_sign(op: Op, out: &mut Vec<u8>) -> Result<(), AllocError>
     ensures { AddsText result out.old.items out.new.items (sign_text op) }
 {
@@ -104,14 +110,14 @@ fn write_sign(op: Op, out: &mut Vec<u8>) -> Result<(), AllocError>
     }
 }
 
-/// Whether no `"` is among the bytes.
+/// Whether the bytes contain no `"`.
 fn holds_none(bytes: &[u8]) -> bool
     ensures { result ≡ list_all (λ b. not (nat_eq b quotation_mark)) bytes.now }
 {
     bytes.iter().all(|byte| *byte != b'"')
 }
 
-/// The quote that can stand round the bytes: `"` where they hold none.
+/// The quote for a literal of these bytes: `"` where they contain none, and `'` otherwise.
 fn quote_for(bytes: &[u8]) -> Quote
     ensures { result ≡ quote_for bytes.now }
 {
@@ -198,8 +204,8 @@ fn write_steps(steps: &[Step], out: &mut Vec<u8>) -> Result<(), AllocError>
     Ok(())
 }
 
-/// Writes the canonical spelling. It is read as the path again, by each user for whom the path can
-/// be read at all.
+/// Writes the canonical spelling. For each user for whom the path can be read, it is read as that path
+/// again.
 pub fn write_path(alloc: Global, path: &Path) -> Result<Bytes, NoMemory>
     ensures canonical { IfOk result (λ bytes. bytes ≡ canonical_text path.now) }
     ensures spells { IfOk result (λ bytes. (user : List ℕ) → CanBeRead user path.now

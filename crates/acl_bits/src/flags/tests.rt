@@ -3,10 +3,10 @@ use std::alloc::{AllocError, Global};
 use std::process::Abort;
 use std::test::Fail;
 
-/// The lists of the table have so many flags: two whole words and two flags.
+/// The number of flags of each list in the table: two whole words and two flags.
 const LEN: usize = 130;
 
-/// A list of `LEN` flags in which those of the numbers are set.
+/// A list of `LEN` flags in which those with the given numbers are set.
 fn flags_with(alloc: Global, numbers: &[usize]) -> Result<Flags, AllocError> {
     let mut flags = Flags::new(alloc);
     flags.grow(LEN)?;
@@ -18,7 +18,7 @@ fn flags_with(alloc: Global, numbers: &[usize]) -> Result<Flags, AllocError> {
     Ok(flags)
 }
 
-/// Just the flags of the numbers are set, and none is past the end.
+/// Checks that the flags with the given numbers are set, and no others.
 fn expect_set(rt: &impl Abort, what: &str, flags: &Flags, numbers: &[usize]) {
     for n in 0..200usize {
         assert_eq!(rt; flags.has(n), numbers.contains(&n), "{what}: {n}");
@@ -26,8 +26,8 @@ fn expect_set(rt: &impl Abort, what: &str, flags: &Flags, numbers: &[usize]) {
     assert!(rt; !flags.has(usize::MAX), "{what}");
 }
 
-// Worked by hand: what stands, the tests, the deep flags, those set below and those set before, and
-// then those set after.
+// Worked by hand. Each case has a name, the tests that pass, the deep flags, the child's flags, and the flags before
+// and after `rise`.
 #[test]
 fn flags_rise_one_element_further_out(rt: HostRuntime) -> Result<(), Fail> {
     let rows: [(&str, [&[usize]; 5]); 13] = [
@@ -76,7 +76,7 @@ fn flags_rise_one_element_further_out(rt: HostRuntime) -> Result<(), Fail> {
     Ok(())
 }
 
-// The edges of words, and places past the end.
+// Flags at the edges of words, and numbers past the end.
 #[test]
 fn flags_are_set_where_they_were_put(rt: HostRuntime) -> Result<(), Fail> {
     for numbers in [

@@ -8,7 +8,7 @@ fn next(state: u64) -> u64 {
         .wrapping_add(1_442_695_040_888_963_407)
 }
 
-/// Each answer of the set is that of the table.
+/// Checks that each call of the set returns what the table says.
 fn expect_same(rt: &impl Abort, row: &Row, plain: &[bool; 256]) {
     let mut below = 0u16;
     let mut left = *row;
@@ -32,7 +32,7 @@ fn expect_same(rt: &impl Abort, row: &Row, plain: &[bool; 256]) {
     assert!(rt; !row.has(256) && !row.has(u16::MAX));
 }
 
-// The table is filled beside the set, in plain code.
+// The table is an array of `bool`, filled with the same numbers as the set.
 #[test]
 fn many_sets_answer_as_a_plain_table_does(rt: HostRuntime) {
     let mut state = 7u64;
@@ -60,7 +60,7 @@ fn the_first_numbers_make_a_full_set(rt: HostRuntime) {
     }
 }
 
-// The members at the edges of words, and the answers worked out by hand.
+// Members at the edges of words; the answers are worked out by hand.
 #[test]
 fn members_at_the_edges_of_words_are_told_apart(rt: HostRuntime) {
     let mut edges = Row::none();

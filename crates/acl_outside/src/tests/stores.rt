@@ -1,10 +1,10 @@
-//! The stores in memory, the store over real files, and the loop below it over a file in memory
-//! that stumbles.
+//! Tests of the stores in memory, of the store over real files, and of its loop over a file in memory whose reads are
+//! short, interrupted or fail.
 ghost use Rattle.std.specs.Prelude.{Some};
-ghost use Rattle.acl_outside.specs.Tries.{unknown_tries};
+ghost use Rattle.acl_outside.specs.inside.Tries.{unknown_tries};
 
 use super::Stumbling;
-use crate::pieces::copy_front;
+use crate::pieces::copy_prefix;
 use crate::positioned_read::{PositionedRead, read_full_at};
 use crate::*;
 use std::alloc::Global;
@@ -16,7 +16,7 @@ use std::test::Fail;
 
 const FOUR_GIB: u64 = 1 << 32;
 
-// Reads into a room of three bytes, and compares the answer and the bytes given.
+/// Reads into a buffer of three bytes, and compares the answer and the bytes given.
 fn expect_read_at<S: Store>(rt: &impl Abort, store: &mut S, at: u64, want: Result<&[u8], Failed>) {
     let mut room = [0u8; 3];
     let got = store.read_at(at, &mut room);
@@ -165,7 +165,7 @@ fn a_folder_is_a_store_and_a_source_that_fail(rt: HostRuntime) -> Result<(), Fai
     Ok(())
 }
 
-// A file in memory of which a read gives one byte, is cut off by a signal, or breaks.
+/// A file in memory. A read of it gives one byte, is interrupted by a signal, or fails.
 #[derive(Drop)]
 struct StumblingFile {
     bytes: Vec<u8>,
@@ -180,11 +180,11 @@ impl PositionedRead for StumblingFile {
     fn read_some_at(&mut self, at: u64, into: &mut [u8]) -> io::Result<usize> {
         self.steps.step()?;
         let from = self.bytes.len().min(at as usize);
-        Ok(copy_front(&self.bytes[from..], 1, into))
+        Ok(copy_prefix(&self.bytes[from..], 1, into))
     }
 }
 
-// The third step is a signal, and the sixth breaks.
+// The third step is interrupted by a signal, and the sixth fails.
 #[test]
 fn a_file_is_read_past_short_reads_and_signals_up_to_its_end_or_an_error(
     rt: HostRuntime,

@@ -1,12 +1,9 @@
-//! Runs that refuse their words, their keys or their input: the outcome names it, and nothing is written.
+//! Runs whose arguments, keys or input are refused: the outcome says why, and nothing is written.
 
 use super::*;
 
-#[test]
-fn other_words_are_no_command_line(rt: HostRuntime) {
-    let body = body(&rt, ZEROS, "+ R /a;");
-    // The first line is one empty word.
-    let lines = "
+/// The first line is one empty argument.
+const USAGE: &str = "
 fly
 Preview;r
 preview
@@ -42,8 +39,13 @@ encode
 encode;k;x
 --help
 --version";
-    for text in lines.split('\n') {
-        assert_run(&rt, text, body.as_str(), "(a;)a", Outcome::Usage, "", "");
+
+#[test]
+fn other_words_are_no_command_line(rt: HostRuntime) -> Result<(), Fail> {
+    let alloc = rt.alloc();
+    for text in USAGE.lines() {
+        let row = format!(in alloc; "{text}|rules + R /a;|(a;)a|acl: 2 Usage||")?;
+        assert_row(&rt, row.as_str())?;
     }
     let nothing = Objects {
         keys: &[],
@@ -52,161 +54,55 @@ encode;k;x
         room: 0,
         fails: [0; 5],
     };
-    assert_eq!(rt; run_with(&rt, &[], nothing).outcome, Outcome::Usage);
+    let ended = run_with(alloc, &[], nothing)?;
+    assert_ended(&rt, "no argument", &ended, ["acl: 2 Usage", "", ""])
 }
+
+/// What is read first is refused first.
+const REFUSALS: &str = "preview;r||(a;)a|acl: 22 BadLicence line=1||
+preview;r|licence 1;root {64*0};user Ana|(a;)a|acl: 22 BadLicence line=4||
+preview;r|rules + R /a;- R /b;|(a;)a|acl: 22 BadLicence line=5||
+preview;r|rules + R //a[b = ];|xyz|acl: 21 BadRule line=4 at=8||
+preview;r;--query;Act|rules + R //a[b = ];|xyz|acl: 21 BadRule line=4 at=8||
+preview;r;--query;Act|rules + R /a;|xyz|acl: 26 BadQuery at=0||
+preview;r;--query;//a[b|rules + R /a;|(a;)a|acl: 26 BadQuery at=5||
+preview;r;--query;{257*/a}|rules + R /a;|xyz|acl: 24 TooManyStates||
+preview;r;--explain|rules + R /a;||acl: 13 NoRoot||
+preview;r|rules + R /a;|xyz|acl: 10 BadLine line=1||
+preview;r|rules + R /a;|(a;)b|acl: 12 Unbalanced line=2||
+preview;r|rules + R /a;|(a;)a;(b|acl: 14 SecondRoot line=3||
+preview;r|rules + R /a;|(a;Nx|acl: 11 Unsupported line=2 kind=78||
+preview;r|rules + R /a;|(a;Ax CDATA 1;)a|acl: 12 Unbalanced line=3||
+encode;k|document 00|xyz|acl: 25 BadKeys line=1||
+encode;k|document {16*00}|xyz|acl: 25 BadKeys line=2||
+encode;k|KEYS|(a;)b|acl: 12 Unbalanced line=2||
+seal;k|document 00||acl: 25 BadKeys line=1||
+seal;k|document {16*00}|rules + R /a;|acl: 25 BadKeys line=2||
+seal;k|KEYS|licence 1;root {64*0};user Ana|acl: 22 BadLicence line=4||
+seal;k|KEYS|rules + R //a[b = ];|acl: 21 BadRule line=4 at=8||";
 
 #[test]
-fn what_is_refused_is_named_and_nothing_is_written(rt: HostRuntime) {
-    let steps = "/a".repeat(rt.alloc(), 257).expect(&rt, "memory");
-    let long_query = format!(in rt.alloc(); "preview;r;--query;{steps}").expect(&rt, "memory");
-    let long_query = long_query.as_str();
-    let good = body(&rt, ZEROS, "+ R /a;");
-    let good = good.as_str();
-    let bad_path = body(&rt, ZEROS, "+ R //a[b = ];");
-    let bad_path = bad_path.as_str();
-    let same_id = body(&rt, ZEROS, "+ R /a;- R /b;");
-    // This body has no end.
-    let cut = good.strip_suffix(";+ R /a;end").unwrap_or("");
-    // The words, the lines of the keys and of the input, and the outcome. What is read first is refused first.
-    for (text, keys, input, outcome) in [
-        ("preview;r", "", "(a;)a", Outcome::BadLicence { line: 1 }),
-        ("preview;r", cut, "(a;)a", Outcome::BadLicence { line: 4 }),
-        (
-            "preview;r",
-            same_id.as_str(),
-            "(a;)a",
-            Outcome::BadLicence { line: 5 },
-        ),
-        (
-            "preview;r",
-            bad_path,
-            "xyz",
-            Outcome::BadRule { line: 4, at: 8 },
-        ),
-        (
-            "preview;r;--query;Act",
-            bad_path,
-            "xyz",
-            Outcome::BadRule { line: 4, at: 8 },
-        ),
-        (
-            "preview;r;--query;Act",
-            good,
-            "xyz",
-            Outcome::BadQuery { at: 0 },
-        ),
-        (
-            "preview;r;--query;//a[b",
-            good,
-            "(a;)a",
-            Outcome::BadQuery { at: 5 },
-        ),
-        (long_query, good, "xyz", Outcome::TooManyStates),
-        ("preview;r;--explain", good, "", Outcome::NoRoot),
-        ("preview;r", good, "xyz", Outcome::BadLine { line: 1 }),
-        ("preview;r", good, "(a;)b", Outcome::Unbalanced { line: 2 }),
-        (
-            "preview;r",
-            good,
-            "(a;)a;(b",
-            Outcome::SecondRoot { line: 3 },
-        ),
-        (
-            "preview;r",
-            good,
-            "(a;Nx",
-            Outcome::Unsupported { line: 2, kind: 78 },
-        ),
-        (
-            "preview;r",
-            good,
-            "(a;Ax CDATA 1;)a",
-            Outcome::Unbalanced { line: 3 },
-        ),
-        (
-            "encode;k",
-            "document 00",
-            "xyz",
-            Outcome::BadKeys { line: 1 },
-        ),
-        ("encode;k", HALF_KEYS, "xyz", Outcome::BadKeys { line: 2 }),
-        ("encode;k", KEYS, "(a;)b", Outcome::Unbalanced { line: 2 }),
-        ("seal;k", "document 00", "", Outcome::BadKeys { line: 1 }),
-        ("seal;k", HALF_KEYS, good, Outcome::BadKeys { line: 2 }),
-        ("seal;k", KEYS, cut, Outcome::BadLicence { line: 4 }),
-        (
-            "seal;k",
-            KEYS,
-            bad_path,
-            Outcome::BadRule { line: 4, at: 8 },
-        ),
-    ] {
-        assert_run(&rt, text, keys, input, outcome, "", "");
+fn what_is_refused_is_named_and_nothing_is_written(rt: HostRuntime) -> Result<(), Fail> {
+    for row in REFUSALS.lines() {
+        assert_row(&rt, row)?;
     }
+    Ok(())
 }
 
-/// The text so many times.
-fn repeated<R: Abort + AllocGlobal>(rt: &R, text: &str, count: usize) -> String {
-    text.repeat(rt.alloc(), count).expect(rt, "memory")
-}
+const LIMITS: &str = "preview;r|rules {65*+ R# /a#;}|(a;)a|acl: 23 TooManyRules||
+preview;r|rules {52*+ R# /a/a/a/a/a;}- S /b;|(a;)a|acl: 24 TooManyStates||
+preview;r|rules + R /a;|{256*(a;}|acl: 15 TooDeep line=256||
+preview;r|rules + R /a;|({256*n}|acl: 16 NameTooLong line=1||
+preview;r|rules + R /a;|{65536*Ax CDATA;}|acl: 19 TooManyAttributes line=65536||
+preview;r|{131072*-}|xyz|acl: 17 InputTooLong limit=131072||
+seal;k|{131072*-}|xyz|acl: 17 InputTooLong limit=131072||
+seal;k|KEYS|{131072*-}|acl: 17 InputTooLong limit=131072||
+encode;k|KEYS|(r;{256*(n#;)n#;})r|acl: 36 TooManyTags||";
 
 #[test]
-fn limits_are_kept(rt: HostRuntime) {
-    let rules = body(&rt, ZEROS, "+ R /a;");
-    let rules = rules.as_str();
-    let many = numbered(&rt, 65, ["+ R", " /a", ";"]);
-    let many = body(&rt, ZEROS, many.as_str());
-    let long = numbered(&rt, 52, ["+ R", " /a/a/a/a/a", ";"]);
-    let long = format!(in rt.alloc(); "{long}- S /b;").expect(&rt, "memory");
-    let long = body(&rt, ZEROS, long.as_str());
-    let open = repeated(&rt, "(a;", 256);
-    let name = repeated(&rt, "n", 256);
-    let start = format!(in rt.alloc(); "({name}").expect(&rt, "memory");
-    let attributes = repeated(&rt, "Ax CDATA;", 65_536);
-    let too_long = repeated(&rt, "-", 131_072);
-    let names = names(&rt, 257);
-    // The words, the lines of the keys and of the input, and the outcome.
-    for (text, keys, input, outcome) in [
-        ("preview;r", many.as_str(), "(a;)a", Outcome::TooManyRules),
-        ("preview;r", long.as_str(), "(a;)a", Outcome::TooManyStates),
-        (
-            "preview;r",
-            rules,
-            open.as_str(),
-            Outcome::TooDeep { line: 256 },
-        ),
-        (
-            "preview;r",
-            rules,
-            start.as_str(),
-            Outcome::NameTooLong { line: 1 },
-        ),
-        (
-            "preview;r",
-            rules,
-            attributes.as_str(),
-            Outcome::TooManyAttributes { line: 65_536 },
-        ),
-        (
-            "preview;r",
-            too_long.as_str(),
-            "xyz",
-            Outcome::InputTooLong { limit: 131_072 },
-        ),
-        (
-            "seal;k",
-            too_long.as_str(),
-            "xyz",
-            Outcome::InputTooLong { limit: 131_072 },
-        ),
-        ("encode;k", KEYS, names.as_str(), Outcome::TooManyTags),
-        (
-            "seal;k",
-            KEYS,
-            too_long.as_str(),
-            Outcome::InputTooLong { limit: 131_072 },
-        ),
-    ] {
-        assert_run(&rt, text, keys, input, outcome, "", "");
+fn limits_are_kept(rt: HostRuntime) -> Result<(), Fail> {
+    for row in LIMITS.lines() {
+        assert_row(&rt, row)?;
     }
+    Ok(())
 }

@@ -9,41 +9,45 @@ const SMALL_ROOT: &str = "d34472f628c9cb7e82921bf1840cf8d6ce4a11d5ce0e694e859f4f
 /// The root of the file of `HOSPITAL`.
 const HOSPITAL_ROOT: &str = "192458bf220db5d92fd62d4af0d3cecb63490b62c211eba93d9f548995a1a1d0";
 
-/// No byte has this place.
-const NOWHERE: usize = usize::MAX;
-
 /// What `encode` makes of a document.
-fn encoded<R: Abort + AllocGlobal>(rt: &R, document: &str) -> Vec<u8> {
-    let ended = run_over(rt, "encode;k", KEYS, document);
-    Vec::from_slice(rt.alloc(), ended.out.written()).expect(rt, "memory")
+fn encoded(alloc: Global, document: &str) -> Result<Vec<u8>, Fail> {
+    let ended = run_over(alloc, "encode;k", "KEYS", document)?;
+    Ok(Vec::from_slice(alloc, ended.out.written())?)
 }
 
 /// What `seal` makes of the licence of this root with these rules.
-fn sealed<R: Abort + AllocGlobal>(rt: &R, root: &str, rules: &str) -> Vec<u8> {
-    let ended = run_over(rt, "seal;k", KEYS, body(rt, root, rules).as_str());
-    Vec::from_slice(rt.alloc(), ended.out.written()).expect(rt, "memory")
+fn sealed(alloc: Global, root: &str, rules: &str) -> Result<Vec<u8>, Fail> {
+    let body = body(alloc, root, rules)?;
+    let ended = run_over(alloc, "seal;k", "KEYS", body.as_str())?;
+    Ok(Vec::from_slice(alloc, ended.out.written())?)
 }
 
-/// The first bytes, one of them with its lowest bit flipped.
-fn edited<R: Abort + AllocGlobal>(rt: &R, bytes: &[u8], length: usize, flipped: usize) -> Vec<u8> {
-    let mut edited = Vec::from_slice(rt.alloc(), bytes).expect(rt, "memory");
+/// The first bytes, with the lowest bit of one of them flipped; all of them, or none flipped, where there is no such
+/// number.
+fn edited(alloc: Global, bytes: &[u8], length: usize, flipped: usize) -> Result<Vec<u8>, Fail> {
+    let mut edited = Vec::from_slice(alloc, bytes)?;
     edited.truncate(length);
     if let Some(byte) = edited.get_mut(flipped) {
         *byte ^= 1;
     }
-    edited
+    Ok(edited)
+}
+
+/// A number in a field; a `-` is past each byte.
+fn number(field: &str) -> usize {
+    field.parse().unwrap_or(usize::MAX)
 }
 
 /// A run over a store of these bytes whose call of this number fails.
-fn run_over_store<R: Abort + AllocGlobal>(
-    rt: &R,
+fn run_over_store(
+    alloc: Global,
     text: &str,
     keys: &str,
     licence: &[u8],
     store: &[u8],
     fails_at: u64,
-) -> Ended {
-    let keys = lines(rt, keys);
+) -> Result<Ended, Fail> {
+    let keys = lines_of(alloc, keys)?;
     let objects = Objects {
         keys: keys.as_slice(),
         input: licence,
@@ -51,199 +55,187 @@ fn run_over_store<R: Abort + AllocGlobal>(
         room: 8192,
         fails: [NEVER, NEVER, fails_at, NEVER, NEVER],
     };
-    run_with(rt, words(rt, text).as_slice(), objects)
+    run_with(alloc, arguments(alloc, text)?.as_slice(), objects)
 }
 
-/// A run over this store is done, shows these lines, and has made three reads: of the header, the top digest and the one
-/// fragment.
-fn assert_shown<R: Abort + AllocGlobal>(
+/// Rules, arguments, and what is shown of `HOSPITAL`.
+const SHOWN: &str = "+ R1 /Hospital/Folder/Admin;|view;k;s|PATIENT
++ R1 /Hospital/Folder/Admin;|explain;k;s|- closed /;+ R1 /1/1
+|view;k;s|
+|explain;k;s|- closed /
++ A //Folder;- B //Admin;+ C //SSN;|view;k;s|NUMBER
++ A //Folder;- B //Admin;+ C //SSN;|explain;k;s|- closed /;+ A /1;- B /1/1;+ C /1/1/1
++ R //Folder[Act/RPhys = USER]/Admin;|view;k;s|PATIENT
++ A //Act;- B //Details;|view;k;s;--query;//Act[Details]|
++ A //Act;- B //Details;|view;k;s;--query=//Act[RPhys]|(-;(-;(Act;(RPhys;-Ana;)RPhys;)Act;)-;)-";
+
+#[test]
+fn a_file_is_shown_as_its_licence_says(rt: HostRuntime) -> Result<(), Fail> {
+    let alloc = rt.alloc();
+    let file = encoded(alloc, HOSPITAL)?;
+    for row in SHOWN.lines() {
+        let (rules, rest) = cut(row, '|')?;
+        let (text, shown) = cut(rest, '|')?;
+        let licence = sealed(alloc, HOSPITAL_ROOT, rules)?;
+        let ended = run_over_store(
+            alloc,
+            text,
+            "KEYS",
+            licence.as_slice(),
+            file.as_slice(),
+            NEVER,
+        )?;
+        assert_ended(&rt, row, &ended, ["", shown, ""])?;
+        // The reads are of the header, the top digest and the one fragment.
+        assert_eq!(rt; ended.store.served().len(), 3, "{row}");
+    }
+    Ok(())
+}
+
+/// What an outcome says begins with this line, and nothing was written.
+fn assert_refused<R: Abort + AllocGlobal>(
     rt: &R,
-    text: &str,
-    licence: &[u8],
-    store: &[u8],
-    shown: &str,
-) {
-    let ended = run_over_store(rt, text, KEYS, licence, store, NEVER);
-    assert_eq!(rt; ended.outcome, Outcome::Done, "{text}");
-    assert_eq!(rt; ended.out.written(), lines(rt, shown).as_slice(), "{text}");
-    assert_eq!(rt; ended.note.written().len(), 0, "{text}");
-    assert_eq!(rt; ended.store.served().len(), 3, "{text}");
+    row: &str,
+    ended: &Ended,
+    line: &str,
+) -> Result<(), Fail> {
+    let said = said(rt.alloc(), &ended.outcome)?;
+    assert!(rt; said.written().starts_with(line.as_bytes()), "{row}");
+    assert_lines(rt, row, ended.out.written(), "")?;
+    assert_lines(rt, row, ended.note.written(), "")
 }
 
-/// A run ended with this number, and nothing was written. Where its store comes short, it is named where that ends.
-fn assert_refused<R: Abort>(rt: &R, what: &str, ended: &Ended, number: u8, store: &[u8]) {
-    assert_eq!(rt; status(&ended.outcome), number, "{what}");
-    assert_eq!(rt; ended.out.written().len(), 0, "{what}");
-    assert_eq!(rt; ended.note.written().len(), 0, "{what}");
-    if number == 33 {
-        let at = store.len() as u64;
-        assert_eq!(rt; ended.outcome, Outcome::StoreShort { at }, "{what}");
-    }
-}
-
-#[test]
-fn a_file_is_shown_as_its_licence_says(rt: HostRuntime) {
-    let file = encoded(&rt, HOSPITAL);
-    let patient = "+ R1 /Hospital/Folder/Admin;";
-    let number = "+ A //Folder;- B //Admin;+ C //SSN;";
-    let act = "+ A //Act;- B //Details;";
-    // The rules, the words, and what is shown.
-    for (rules, text, shown) in [
-        (patient, "view;k;s", PATIENT),
-        (patient, "explain;k;s", "- closed /;+ R1 /1/1"),
-        ("", "view;k;s", ""),
-        ("", "explain;k;s", "- closed /"),
-        (
-            number,
-            "view;k;s",
-            "(-;(Folder;(-;(SSN;-123;)SSN;)-;(Act;(RPhys;-Ana;)RPhys;(Details;-calm;)Details;)Act;)Folder;)-",
-        ),
-        (
-            number,
-            "explain;k;s",
-            "- closed /;+ A /1;- B /1/1;+ C /1/1/1",
-        ),
-        ("+ R //Folder[Act/RPhys = USER]/Admin;", "view;k;s", PATIENT),
-        (act, "view;k;s;--query;//Act[Details]", ""),
-        (
-            act,
-            "view;k;s;--query=//Act[RPhys]",
-            "(-;(-;(Act;(RPhys;-Ana;)RPhys;)Act;)-;)-",
-        ),
-    ] {
-        let licence = sealed(&rt, HOSPITAL_ROOT, rules);
-        assert_shown(&rt, text, licence.as_slice(), file.as_slice(), shown);
-    }
-}
+/// Arguments, and what the store has: so many bytes of the file of a document, of which one is changed, and its call of
+/// this number fails. Then what is said.
+const STORES: &str = "view;k;s|(a;-hi;)a|351|-|-|acl: 33 StoreShort at=351
+view;k;s|(a;-hi;)a|10|-|-|acl: 33 StoreShort at=10
+explain;k;s|(a;-hi;)a|0|-|-|acl: 33 StoreShort at=0
+view;k;s|(a;-hi;)a|-|40|-|acl: 30 BadHeader
+explain;k;s|(a;-hi;)a|-|40|-|acl: 30 BadHeader
+view;k;s|(a;-hi;)a|-|24|-|acl: 31 WrongRoot want=d34472f6
+view;k;s|(a;-hi;)a|-|64|-|acl: 35 BadFragment index=0 want=
+explain;k;s|(a;-hi;)a|-|64|-|acl: 35 BadFragment index=0 want=
+view;k;s|(a;-hi;)a|-|351|-|acl: 31 WrongRoot want=d34472f6
+explain;k;s|HOSPITAL|-|-|-|acl: 31 WrongRoot want=d34472f6
+view;k;s|(a;-hi;)a|-|-|0|acl: 34 StoreFault
+view;k;s|(a;-hi;)a|-|-|2|acl: 34 StoreFault
+explain;k;s|(a;-hi;)a|-|-|2|acl: 34 StoreFault";
 
 #[test]
-fn a_store_is_refused_by_its_first_fault(rt: HostRuntime) {
-    let licence = sealed(&rt, SMALL_ROOT, "+ R /a;");
-    let licence = licence.as_slice();
-    let file = encoded(&rt, "(a;-hi;)a");
-    let file = file.as_slice();
-    let other = encoded(&rt, HOSPITAL);
-    let other = other.as_slice();
-    assert_eq!(rt; file.len(), 352);
-    assert_shown(&rt, "view;k;s", licence, file, "(a;-hi;)a");
-    assert_shown(&rt, "explain;k;s", licence, file, "+ R /");
-    // What the store has: so many bytes of a file, of which this is changed, and its call of this number fails. Then
-    // the number of the outcome.
-    for (what, file, length, place, fails_at, number) in [
-        ("cut to 351 bytes", file, 351, NOWHERE, NEVER, 33),
-        ("cut to 10 bytes", file, 10, NOWHERE, NEVER, 33),
-        ("empty", file, 0, NOWHERE, NEVER, 33),
-        ("byte 40 changed", file, 352, 40, NEVER, 30),
-        ("byte 24 changed", file, 352, 24, NEVER, 31),
-        ("byte 64 changed", file, 352, 64, NEVER, 35),
-        ("byte 351 changed", file, 352, 351, NEVER, 31),
-        ("another file", other, 352, NOWHERE, NEVER, 31),
-        ("first read fails", file, 352, NOWHERE, 0, 34),
-        ("third read fails", file, 352, NOWHERE, 2, 34),
-    ] {
-        let store = edited(&rt, file, length, place);
-        let store = store.as_slice();
-        let ended = run_over_store(&rt, "view;k;s", KEYS, licence, store, fails_at);
-        assert_refused(&rt, what, &ended, number, store);
-        let ended = run_over_store(&rt, "explain;k;s", KEYS, licence, store, fails_at);
-        assert_refused(&rt, what, &ended, number, store);
+fn a_store_is_refused_by_its_first_fault(rt: HostRuntime) -> Result<(), Fail> {
+    let alloc = rt.alloc();
+    let licence = sealed(alloc, SMALL_ROOT, "+ R /a;")?;
+    for row in STORES.lines() {
+        let (text, rest) = cut(row, '|')?;
+        let (document, rest) = cut(rest, '|')?;
+        let (length, rest) = cut(rest, '|')?;
+        let (place, rest) = cut(rest, '|')?;
+        let (fails, line) = cut(rest, '|')?;
+        let file = encoded(alloc, document)?;
+        let store = edited(alloc, file.as_slice(), number(length), number(place))?;
+        let fails_at = fails.parse().unwrap_or(NEVER);
+        let ended = run_over_store(
+            alloc,
+            text,
+            "KEYS",
+            licence.as_slice(),
+            store.as_slice(),
+            fails_at,
+        )?;
+        assert_refused(&rt, row, &ended, line)?;
     }
+    Ok(())
 }
 
+/// Arguments, keys, so many bytes of the licence, of which one is changed, how many reads were made of the store, and
+/// what is said. The line `licence 1` begins at byte 70, after the seal line. The document key alone is compared with
+/// what the store served.
+const CLOSED: &str = "view;k;s|document 00|-|-|0|acl: 25 BadKeys line=1
+view;k;s|OTHER KEYS|-|-|2|acl: 32 WrongKey want=
+view;k;s|KEYS|-|78|0|acl: 20 BadSeal given=
+explain;k;s|KEYS|-|6|0|acl: 20 BadSeal given=
+view;k;s|KEYS|0|-|0|acl: 22 BadLicence line=1
+view;k;s;--query;Act|KEYS|-|-|0|acl: 26 BadQuery at=0";
+
 #[test]
-fn keys_licence_and_query_are_refused_before_the_store(rt: HostRuntime) {
-    let sealed = sealed(&rt, SMALL_ROOT, "+ R /a;");
-    let file = encoded(&rt, "(a;-hi;)a");
-    let other =
-        "document 010102030405060708090a0b0c0d0e0f;seal 000102030405060708090a0b0c0d0e0f101112131415161718191a1b1c1d1e1f";
-    // The words, the keys, so many bytes of the licence, of which this is changed, and the number of the outcome. Behind
-    // the seal line of 70 bytes stands the line `licence 1`.
-    for (what, text, keys, length, place, number) in [
-        (
-            "keys of half a line",
-            "view;k;s",
-            "document 00",
-            NOWHERE,
-            NOWHERE,
-            25,
-        ),
-        (
-            "another document key",
-            "view;k;s",
-            other,
-            NOWHERE,
-            NOWHERE,
-            32,
-        ),
-        ("a changed body", "view;k;s", KEYS, NOWHERE, 78, 20),
-        ("a changed seal", "explain;k;s", KEYS, NOWHERE, 6, 20),
-        ("no licence", "view;k;s", KEYS, 0, NOWHERE, 22),
-        (
-            "a bad query",
-            "view;k;s;--query;Act",
-            KEYS,
-            NOWHERE,
-            NOWHERE,
-            26,
-        ),
-    ] {
-        let licence = edited(&rt, sealed.as_slice(), length, place);
-        let store = file.as_slice();
-        let ended = run_over_store(&rt, text, keys, licence.as_slice(), store, NEVER);
-        assert_refused(&rt, what, &ended, number, store);
-        // The document key alone is compared with what the store served.
-        let reads = if number == 32 { 2 } else { 0 };
-        assert_eq!(rt; ended.store.served().len(), reads, "{what}");
+fn keys_licence_and_query_are_refused_before_the_store(rt: HostRuntime) -> Result<(), Fail> {
+    let alloc = rt.alloc();
+    let sealed = sealed(alloc, SMALL_ROOT, "+ R /a;")?;
+    let store = encoded(alloc, "(a;-hi;)a")?;
+    for row in CLOSED.lines() {
+        let (text, rest) = cut(row, '|')?;
+        let (keys, rest) = cut(rest, '|')?;
+        let (length, rest) = cut(rest, '|')?;
+        let (place, rest) = cut(rest, '|')?;
+        let (reads, line) = cut(rest, '|')?;
+        let licence = edited(alloc, sealed.as_slice(), number(length), number(place))?;
+        let ended = run_over_store(
+            alloc,
+            text,
+            keys,
+            licence.as_slice(),
+            store.as_slice(),
+            NEVER,
+        )?;
+        assert_refused(&rt, row, &ended, line)?;
+        assert_eq!(rt; ended.store.served().len(), number(reads), "{row}");
     }
+    Ok(())
 }
 
 /// A run over this store refuses it, and nothing is written.
-fn assert_no_file<R: Abort + AllocGlobal>(rt: &R, licence: &[u8], store: &[u8], place: usize) {
-    let ended = run_over_store(rt, "view;k;s", KEYS, licence, store, NEVER);
+fn assert_no_file<R: Abort + AllocGlobal>(
+    rt: &R,
+    licence: &[u8],
+    store: &[u8],
+    place: usize,
+) -> Result<(), Fail> {
+    let ended = run_over_store(rt.alloc(), "view;k;s", "KEYS", licence, store, NEVER)?;
     let number = status(&ended.outcome);
     assert!(rt; number >= 30 && number <= 35, "byte {place}: {number}");
-    assert_eq!(rt; ended.out.written().len(), 0, "byte {place}");
+    assert_lines(rt, "a changed file", ended.out.written(), "")
 }
 
 // All bytes of this file are read: 64 of the header, 256 of the fragment and 32 of its digest, which is the top one.
 #[test]
-fn each_changed_byte_and_each_cut_is_refused(rt: HostRuntime) {
-    let licence = sealed(&rt, SMALL_ROOT, "+ R /a;");
-    let file = encoded(&rt, "(a;-hi;)a");
+fn each_changed_byte_and_each_cut_is_refused(rt: HostRuntime) -> Result<(), Fail> {
+    let alloc = rt.alloc();
+    let licence = sealed(alloc, SMALL_ROOT, "+ R /a;")?;
+    let file = encoded(alloc, "(a;-hi;)a")?;
     for place in 0..352 {
-        let changed = edited(&rt, file.as_slice(), 352, place);
-        assert_no_file(&rt, licence.as_slice(), changed.as_slice(), place);
-        let cut = edited(&rt, file.as_slice(), place, NOWHERE);
-        assert_no_file(&rt, licence.as_slice(), cut.as_slice(), place);
+        let changed = edited(alloc, file.as_slice(), 352, place)?;
+        assert_no_file(&rt, licence.as_slice(), changed.as_slice(), place)?;
+        let cut = edited(alloc, file.as_slice(), place, usize::MAX)?;
+        assert_no_file(&rt, licence.as_slice(), cut.as_slice(), place)?;
     }
+    Ok(())
 }
 
-/// The root that stands in a note of `encode`.
-fn noted_root<R: Abort + AllocGlobal>(rt: &R, note: &[u8]) -> String {
-    let digits = note.get(5..69).expect(rt, "a line of a root");
-    let digits = Vec::from_slice(rt.alloc(), digits).expect(rt, "memory");
-    String::from_utf8(digits).expect(rt, "digits")
+/// The root in a note of `encode`.
+fn noted_root(alloc: Global, note: &[u8]) -> Result<String, Fail> {
+    let digits = note.get(5..69).ok_or("no line of a root")?;
+    let digits = Vec::from_slice(alloc, digits)?;
+    match String::from_utf8(digits) {
+        Ok(root) => Ok(root),
+        Err(_) => Err("no digits".into()),
+    }
 }
 
 /// The file with its fragments 1 and 2 exchanged: the bytes 320 to 575, and 576 to 831.
-fn exchanged<R: Abort + AllocGlobal>(rt: &R, file: &[u8]) -> Vec<u8> {
-    let mut bytes = Vec::new(rt.alloc());
-    for place in 0..file.len() {
-        let from = match place {
-            320..=575 => place + 256,
-            576..=831 => place - 256,
-            _ => place,
-        };
-        let byte = file.get(from).expect(rt, "three fragments");
-        bytes.push(*byte).expect(rt, "memory");
+fn exchanged(alloc: Global, file: &[u8]) -> Result<Vec<u8>, Fail> {
+    let mut bytes = Vec::new(alloc);
+    for range in [0..320, 576..832, 320..576] {
+        bytes.extend_from_slice(file.get(range).ok_or("three fragments")?)?;
     }
-    bytes
+    bytes.extend_from_slice(file.get(832..).ok_or("three fragments")?)?;
+    Ok(bytes)
 }
 
 #[test]
-fn exchanged_fragments_are_refused_at_the_first(rt: HostRuntime) {
-    let sample = run_failing(&rt, "sample;40", "", "", 65_536, [NEVER; 5]);
-    let keys = lines(&rt, KEYS);
+fn exchanged_fragments_are_refused_at_the_first(rt: HostRuntime) -> Result<(), Fail> {
+    let alloc = rt.alloc();
+    let sample = run_over(alloc, "sample;40", "", "")?;
+    let keys = lines(alloc, KEYS)?;
     let objects = Objects {
         keys: keys.as_slice(),
         input: sample.out.written(),
@@ -251,18 +243,16 @@ fn exchanged_fragments_are_refused_at_the_first(rt: HostRuntime) {
         room: 65_536,
         fails: [NEVER; 5],
     };
-    let encoded = run_with(&rt, words(&rt, "encode;k").as_slice(), objects);
-    let root = noted_root(&rt, encoded.note.written());
-    let licence = sealed(&rt, root.as_str(), "+ R /Hospital;");
-    let store = exchanged(&rt, encoded.out.written());
-    let ended = run_over_store(
+    let encoded = run_with(alloc, arguments(alloc, "encode;k")?.as_slice(), objects)?;
+    let root = noted_root(alloc, encoded.note.written())?;
+    let licence = sealed(alloc, root.as_str(), "+ R /Hospital;")?;
+    let store = exchanged(alloc, encoded.out.written())?;
+    let (licence, store) = (licence.as_slice(), store.as_slice());
+    let ended = run_over_store(alloc, "view;k;s", "KEYS", licence, store, NEVER)?;
+    assert_refused(
         &rt,
-        "view;k;s",
-        KEYS,
-        licence.as_slice(),
-        store.as_slice(),
-        NEVER,
-    );
-    assert!(rt; matches!(ended.outcome, Outcome::BadFragment { index: 1, .. }));
-    assert_eq!(rt; ended.out.written().len(), 0);
+        "exchanged fragments",
+        &ended,
+        "acl: 35 BadFragment index=1 ",
+    )
 }

@@ -1,88 +1,84 @@
-//! The documents of the tests.
+//! Documents, written as lines with `;` between them. In a line, `z*256` is 256 times the letter `z`.
 
 use acl_model::{Bytes, Doc, Element, Item, Name, Sequence};
 use sqlite_items::{Boxed, Items};
 use std::alloc::{AllocError, Global};
+use std::test::Fail;
 
-/// An element.
-pub(super) fn element(
-    alloc: Global,
-    name: &[u8],
+/// An element whose end hasn't come yet.
+#[derive(Drop)]
+struct OpenElement {
+    name: Name,
     attributes: Vec<Bytes>,
     items: Vec<Item>,
-) -> Result<Element, AllocError> {
-    Ok(Element {
-        name: Name::from_slice(alloc, name)?,
-        attributes: Sequence::from_vec(attributes),
-        items: Items::from_vec(items),
-    })
 }
 
-/// A child element without attributes.
-pub(super) fn child(alloc: Global, name: &[u8], items: Vec<Item>) -> Result<Item, AllocError> {
-    let element = element(alloc, name, Vec::new(alloc), items)?;
-    Ok(Item::Child(Boxed::new(alloc, element)?))
+/// The bytes of a line: the byte before a `*` comes as often as the number after the `*` says.
+pub(super) fn bytes_of(alloc: Global, line: &str) -> Result<Vec<u8>, Fail> {
+    let (start, count) = line.split_once('*').unwrap_or((line, "1"));
+    let count: u32 = count.parse()?;
+    let mut bytes = Vec::new(alloc);
+    bytes.extend_from_slice(start.as_bytes())?;
+    if let [.., last] = start.as_bytes() {
+        for _ in 1..count {
+            bytes.push(*last)?;
+        }
+    }
+    Ok(bytes)
 }
 
-/// A child element with one text.
-pub(super) fn leaf(alloc: Global, name: &[u8], bytes: &[u8]) -> Result<Item, AllocError> {
-    child(alloc, name, vec![in alloc; text(alloc, bytes)?]?)
+/// Adds an item to the innermost open element.
+fn add(open: &mut Vec<OpenElement>, item: Item) -> Result<(), Fail> {
+    match open.last_mut() {
+        Some(around) => around.items.push(item)?,
+        None => return Err("nothing is open".into()),
+    }
+    Ok(())
 }
 
-/// A text.
-pub(super) fn text(alloc: Global, bytes: &[u8]) -> Result<Item, AllocError> {
-    Ok(Item::Text(Bytes::from_slice(alloc, bytes)?))
+fn closed(open: OpenElement) -> Element {
+    Element {
+        name: open.name,
+        attributes: Sequence::from_vec(open.attributes),
+        items: Items::from_vec(open.items),
+    }
 }
 
-/// Names.
-pub(super) fn names(alloc: Global, all: &[&[u8]]) -> Result<Vec<Name>, AllocError> {
+/// The document with these lines.
+pub(super) fn document(alloc: Global, lines: &str) -> Result<Doc, Fail> {
+    let mut open = Vec::new(alloc);
+    let mut attributes = Vec::new(alloc);
+    for line in lines.split(';') {
+        let bytes = bytes_of(alloc, line)?;
+        match bytes.as_slice() {
+            [b'A', raw @ ..] => attributes.push(Bytes::from_slice(alloc, raw)?)?,
+            [b'(', name @ ..] => {
+                let name = Name::from_slice(alloc, name)?;
+                open.push(OpenElement {
+                    name,
+                    attributes,
+                    items: Vec::new(alloc),
+                })?;
+                attributes = Vec::new(alloc);
+            }
+            [b'-', text @ ..] => add(&mut open, Item::Text(Bytes::from_slice(alloc, text)?))?,
+            _ => {
+                let root = closed(open.pop().ok_or("nothing is open")?);
+                if open.is_empty() {
+                    return Ok(Doc { root });
+                }
+                add(&mut open, Item::Child(Boxed::new(alloc, root)?))?;
+            }
+        }
+    }
+    Err("an element is open".into())
+}
+
+/// The names in a text with spaces between them.
+pub(super) fn names(alloc: Global, text: &str) -> Result<Vec<Name>, AllocError> {
     let mut names = Vec::new(alloc);
-    for name in all {
-        names.push(Name::from_slice(alloc, name)?)?;
+    for name in text.split(' ') {
+        names.push(Name::from_slice(alloc, name.as_bytes())?)?;
     }
     Ok(names)
-}
-
-/// The folder of one patient, with an admission and an act.
-pub(super) fn ward(alloc: Global) -> Result<Doc, AllocError> {
-    let personal = vec![in alloc; leaf(alloc, b"SSN", b"123")?, leaf(alloc, b"Fname", b"Li")?]?;
-    let act = vec![in alloc;
-        leaf(alloc, b"RPhys", b"Ana")?,
-        leaf(alloc, b"Details", b"calm")?,
-    ]?;
-    let admin = child(alloc, b"Admin", personal)?;
-    let folder = vec![in alloc; admin, child(alloc, b"Act", act)?]?;
-    let hospital = vec![in alloc; child(alloc, b"Folder", folder)?]?;
-    Ok(Doc {
-        root: element(alloc, b"Hospital", Vec::new(alloc), hospital)?,
-    })
-}
-
-/// The names of that document, in the order in which they start.
-pub(super) const WARD: [&[u8]; 8] = [
-    b"Hospital",
-    b"Folder",
-    b"Admin",
-    b"SSN",
-    b"Fname",
-    b"Act",
-    b"RPhys",
-    b"Details",
-];
-
-/// A document with one text, and before it a raw attribute of the same bytes.
-pub(super) fn of_bytes(alloc: Global, bytes: &[u8]) -> Result<Doc, AllocError> {
-    let attributes = vec![in alloc; Bytes::from_slice(alloc, bytes)?]?;
-    let items = vec![in alloc; text(alloc, bytes)?]?;
-    Ok(Doc {
-        root: element(alloc, b"a", attributes, items)?,
-    })
-}
-
-/// A document with one text.
-pub(super) fn of_text(alloc: Global, bytes: &[u8]) -> Result<Doc, AllocError> {
-    let items = vec![in alloc; text(alloc, bytes)?]?;
-    Ok(Doc {
-        root: element(alloc, b"a", Vec::new(alloc), items)?,
-    })
 }

@@ -1,10 +1,10 @@
-//! The options: what is read of each form.
+//! The options that are read of each form. The arguments of a case have `;` between them.
 
 use super::*;
 use crate::tests::words;
 use std::process::Abort;
 
-/// These words are read as this query, or as none where it is empty, with or without `--explain`.
+/// Checks that these arguments are read as this query, or as none where it is empty, with or without `--explain`.
 fn assert_read<R: Abort + AllocGlobal>(rt: &R, text: &str, query: &str, explain: bool) {
     let words = words(rt, text);
     let options = read_options(words.as_slice()).expect(rt, "options");
@@ -43,7 +43,7 @@ explain
 --query;/a;--query;/a
 --query=/a;--query=/a
 --queryx";
-    // The first line is one empty word.
+    // The first line is one empty argument.
     for text in lines.split('\n') {
         let words = words(&rt, text);
         assert!(rt; read_options(words.as_slice()).is_none(), "{text}");

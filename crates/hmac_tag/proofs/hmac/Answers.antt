@@ -1,4 +1,4 @@
--- The outer digest is of the outer pad and the inner digest.
+-- The outer digest is that of the outer padded key and the inner digest.
 use Rattle.hmac_tag.proofs.Pads.{hmac-by_steps}
 use Rattle.hmac_tag.proofs.hmac.Goals as goal
 

@@ -1,4 +1,4 @@
--- Over all its bytes, the block with the pad is the exclusive or.
+-- After all bytes, the block is the exclusive or with the pad.
 use Rattle.hmac_tag.proofs.Pads.{exclusive_or-more, exclusive_or-whole}
 use Rattle.hmac_tag.proofs.padded_block.Goals as goal
 

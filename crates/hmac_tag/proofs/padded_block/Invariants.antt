@@ -1,4 +1,4 @@
--- The bytes so far have the pad over them.
+-- The bytes so far are combined with the pad.
 use Rattle.std.proofs.Common.{◌≡◌, ◌++◌, map, take, drop, bit_xor}
 use Rattle.hmac_tag.proofs.padded_block.Given as goal
 

@@ -1,14 +1,14 @@
-//! Files beside those of another implementation, `.ci/check_files.py`: Python's `hashlib`, and the AES of `openssl` or of
-//! Python's `cryptography`. The script compares the numbers here with its own.
+//! Compares files with those that another implementation makes, `.ci/check_files.py`. It uses Python's `hashlib`, and
+//! the AES of `openssl` or of Python's `cryptography`. The script checks the numbers here against its own.
 
 use super::*;
 use sha2::{Digest, Sha256};
 
-/// What is known of a file.
+/// The expected numbers of a file.
 struct Vector {
-    /// How many bytes it has.
+    /// Its length in bytes.
     bytes: usize,
-    /// The first block behind the header.
+    /// The first enciphered block, after the header.
     block: u128,
     /// The halves of the digest of all its bytes.
     file: [u128; 2],
@@ -19,7 +19,7 @@ struct Vector {
 /// The document key of the files.
 const KEY: [u8; 16] = [0, 1, 2, 3, 4, 5, 6, 7, 8, 9, 10, 11, 12, 13, 14, 15];
 
-/// Of one element `a` with the text `hi`.
+/// The file of one element `a` with the text `hi`.
 const SMALL: Vector = Vector {
     bytes: 352,
     block: 0x6da69c4890a19f693736e72051a77095,
@@ -33,7 +33,7 @@ const SMALL: Vector = Vector {
     ],
 };
 
-/// Of a ward with one patient.
+/// The file of a ward with one patient.
 const WARD: Vector = Vector {
     bytes: 352,
     block: 0x1a099a9f27cf5f55f66278f7300d500f,
@@ -47,7 +47,7 @@ const WARD: Vector = Vector {
     ],
 };
 
-/// Of one element `a` with a text of 600 `z`, in three fragments.
+/// The file of one element `a` with a text of 600 `z`, in three fragments.
 const LONG: Vector = Vector {
     bytes: 1024,
     block: 0x0c2e62bf94a80517d4f42cad042e472c,
@@ -61,12 +61,12 @@ const LONG: Vector = Vector {
     ],
 };
 
-/// Whether bytes are those of a number, the highest first.
+/// Fails unless the bytes are those of the number in big-endian order.
 fn expect_bytes(rt: &impl Abort, bytes: &[u8], want: u128) {
     assert_eq!(rt; bytes, want.to_be_bytes().as_slice());
 }
 
-/// Whether the file of what has to be a document is the known one.
+/// Fails unless the file of a document, which must be valid, is the expected one.
 fn expect_file(rt: &impl Abort, alloc: Global, doc: &Doc, want: &Vector) {
     assert!(rt; is_document(doc));
     let made = encode_file(alloc, doc, KEY).expect(rt, "a file");

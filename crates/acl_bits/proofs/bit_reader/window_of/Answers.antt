@@ -1,4 +1,4 @@
--- One more byte behind the window.
+-- One more byte is appended to the window.
 use Rattle.std.proofs.Common.{◌∙◌, arith}
 use Rattle.acl_bits.proofs.Windows.{IsWindowTo-next}
 use Rattle.acl_bits.proofs.bit_reader.window_of.Goals as goal

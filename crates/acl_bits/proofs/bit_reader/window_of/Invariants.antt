@@ -1,4 +1,4 @@
--- The window so far has the bits of the bytes so far.
+-- The window so far has the bits of the bytes read so far.
 use Rattle.acl_bits.proofs.Windows.{IsWindowTo}
 use Rattle.acl_bits.proofs.bit_reader.window_of.Given as goal
 

@@ -1,4 +1,4 @@
--- The loop goes over the five bytes, or as far as the bytes go.
+-- The loop visits the five bytes, or those of them that there are.
 use Rattle.std.proofs.Common.{arith}
 use Rattle.acl_bits.proofs.Windows.{LaysUpTo-none, LaysUpTo-more, LaysUpTo-done}
 use Rattle.acl_bits.proofs.bit_writer.lay_over.Goals as goal

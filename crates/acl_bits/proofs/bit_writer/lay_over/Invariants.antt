@@ -1,4 +1,4 @@
--- The bytes from `first` up to i have the window over them, and the others are as they were.
+-- The bytes from `first` up to i are combined with the window, and the others are unchanged.
 use Rattle.acl_bits.proofs.Windows.{LaysUpTo}
 use Rattle.acl_bits.proofs.bit_writer.lay_over.Given as goal
 

@@ -1,4 +1,4 @@
--- The words before i are risen, and the carry is the flag that stands below before word i.
+-- The words before i are updated, and the carry is the child's flag before word i.
 use Rattle.acl_bits.proofs.FlagWords.{RisenUpTo}
 use Rattle.acl_bits.proofs.flags.rise_words.Given as goal
 

@@ -1,4 +1,4 @@
--- The words so far have no number.
+-- The words so far contain no number.
 use Rattle.std.proofs.Common.{◌≡◌, ℕ, ◌<◌, get_or}
 use Rattle.acl_bits.proofs.number_set.first_of.Given as goal
 

@@ -1,6 +1,6 @@
--- The bits so far and those of the next word, or of a part of it, are the bits before its end.
+-- The bits counted so far and those of the next word, or of a part of it, are the bits before the end.
 use Rattle.std.proofs.Common.{refl, ◌∙◌, arith, ◌*◌, ◌+◌}
-use Rattle.acl_bits.specs.RowLaws.{numbers_below}
+use Rattle.acl_bits.specs.inside.RowLaws.{numbers_below}
 use Rattle.acl_bits.specs.Row.{is_set}
 use Rattle.acl_bits.proofs.Words.{length-whole_word, length-part_word, length-no_part, length-numbers_below_le}
 use Rattle.acl_bits.proofs.number_set.ones_before.Goals as goal

@@ -1,5 +1,5 @@
--- The laws of specs/RowLaws.antt.
-use Rattle.acl_bits.specs.RowLaws.{is_member-row_of, is_member-row_of_past}
+-- The laws of specs/inside/RowLaws.antt.
+use Rattle.acl_bits.specs.inside.RowLaws.{is_member-row_of, is_member-row_of_past}
 use Rattle.acl_bits.proofs.Members.{IsRow-row_of}
 use Rattle.acl_bits.proofs.number_set.sets_have_what_passes.Goals as goal
 

@@ -1,7 +1,7 @@
--- An element's form is its own and that of its items.
+-- An element has the right form if its name and attributes have it, and its items.
 use Rattle.std.proofs.Common.{◌-◌, ◌&&◌, nat_le, map, sym, ap, ◌∙◌, arith}
 use Rattle.std.specs.List.{list_all}
-use Rattle.acl_model.specs.Form.{allows}
+use Rattle.acl_model.specs.inside.Form.{allows}
 use Rattle.acl_model.specs.Document.{item_well_formed, greatest, height_of_item}
 use Rattle.acl_model.proofs.FormLaws.{element-no_levels, element-levels, and_no, and_true}
 use Rattle.acl_model.proofs.form.+form.Goals as goal

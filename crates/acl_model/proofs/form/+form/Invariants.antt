@@ -1,7 +1,8 @@
--- The items that are left are formed exactly where all are. Each call has a part of a level, or one level less.
+-- The items that are left have the right form exactly where all items have it. Each call gets a part of an element, or
+-- one level less.
 use Rattle.std.proofs.Common.{◌≡◌, ◌+◌, ◌*◌, ◌&&◌, nat_le, drop, map}
 use Rattle.std.specs.List.{list_all}
-use Rattle.acl_model.specs.Form.{allows}
+use Rattle.acl_model.specs.inside.Form.{allows}
 use Rattle.acl_model.specs.Document.{item_well_formed, greatest, height_of_item}
 use Rattle.acl_model.proofs.form.+form.Given as goal
 

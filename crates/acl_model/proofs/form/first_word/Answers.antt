@@ -1,4 +1,4 @@
--- One cut gives the first word.
+-- One cut gives the bytes before the first space.
 use Rattle.std.proofs.Common.{sym}
 use Rattle.acl_model.proofs.FormLaws.{before_first-cut, before_first-whole}
 use Rattle.acl_model.proofs.form.first_word.Goals as goal

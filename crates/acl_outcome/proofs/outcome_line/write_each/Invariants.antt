@@ -1,8 +1,9 @@
+-- The sink took the text of the fields so far. What remains is the text of the fields left.
 use Rattle.std.proofs.Common.{drop, map}
 use Rattle.std.specs.List.{concat}
 use Rattle.acl_outside.proofs.Remaining.{Remains}
 use Rattle.acl_outcome.specs.Outcome.{field_text}
-use Rattle.acl_outcome.specs.Fields.{meant_field}
+use Rattle.acl_outcome.specs.inside.Fields.{meant_field}
 use Rattle.acl_outcome.proofs.outcome_line.write_each.Given as goal
 
 abbrev pub invariant-loop-field : goal.invariant-loop-field

@@ -1,7 +1,7 @@
 use Rattle.std.proofs.Common.{◌≡◌, ◌+◌, ◌∙◌, rules}
-use Rattle.acl_outside.proofs.Placing.{cut-behind, part-behind, part-kept}
+use Rattle.acl_outside.proofs.Placing.{cut-after, part-after, part-kept}
 use Rattle.acl_outside.proofs.Trying.{Passed-given, Passed-cut_off, OneFailed-last}
-use Rattle.acl_outside.specs.Tries.{OneFailed}
+use Rattle.acl_outside.specs.inside.Tries.{OneFailed}
 use Rattle.acl_outside.proofs.positioned_read.read_full_at.Goals as goal
 use Rattle.acl_outside.proofs.positioned_read.read_full_at.Goals.{in-Ok, in-Err}
 
@@ -19,8 +19,8 @@ loop-turn-preserved g c =
       | in-Ok w ↦ rw w.filled-is (record {
         in_range = search rules;
         constant = c.read_some_at.ensures.constant ∙ same;
-        cut = cut-behind _ _ _ _ _ next c.loop-turn.invariant.cut (rw same at w.in-Ok.ensures.cut);
-        part = part-behind _ _ _ _ _ _ _ next c.loop-turn.invariant.in_range (search rules) c.loop-turn.invariant.part (rw same at w.in-Ok.ensures.part);
+        cut = cut-after _ _ _ _ _ next c.loop-turn.invariant.cut (rw same at w.in-Ok.ensures.cut);
+        part = part-after _ _ _ _ _ _ _ next c.loop-turn.invariant.in_range (search rules) c.loop-turn.invariant.part (rw same at w.in-Ok.ensures.part);
         passed = Passed-given _ _ _ _ _ c.loop-turn.invariant.passed w.in-Ok.ensures.counted;
       })
       | in-Err w ↦ rw w.filled-is (record {

@@ -2,7 +2,7 @@ use Rattle.std.proofs.Common.{◌≡◌, ◌-◌, ◌≤◌, length, take, drop,
 use Rattle.acl_outside.proofs.Trying.{Passed}
 use Rattle.acl_outside.proofs.positioned_read.read_full_at.Given as goal
 
--- what stands in front of the next place is what the file has at the asked one
+-- the bytes before the next offset are those of the file at the asked offset
 abbrev pub invariant-loop-turn : goal.invariant-loop-turn
 invariant-loop-turn g l = record {
   in_range : l.filled ≤ length l.into;

@@ -1,7 +1,7 @@
 use Rattle.std.proofs.Common.{◌∙◌, rules}
-use Rattle.acl_outside.proofs.Consuming.{Consumes-behind, Consumes-unread}
+use Rattle.acl_outside.proofs.Consuming.{Consumes-after, Consumes-unread}
 use Rattle.acl_outside.proofs.Trying.{Passed-given, Passed-cut_off, OneFailed-last}
-use Rattle.acl_outside.specs.Tries.{OneFailed}
+use Rattle.acl_outside.specs.inside.Tries.{OneFailed}
 use Rattle.acl_outside.proofs.reader_source.read_full.Goals as goal
 use Rattle.acl_outside.proofs.reader_source.read_full.Goals.{in-Ok, in-Err}
 
@@ -15,7 +15,7 @@ pub loop-turn-preserved : goal.loop-turn-preserved
 loop-turn-preserved g c = elim c.match-read_some.branch [
   | in-Ok w ↦ rw w.filled-is (record {
     in_range = search rules;
-    consumed = Consumes-behind _ _ _ _ _ _ _ c.loop-turn.invariant.in_range w.in-Ok.ensures.within.0 c.loop-turn.invariant.consumed w.in-Ok.ensures.bytes.0;
+    consumed = Consumes-after _ _ _ _ _ _ _ c.loop-turn.invariant.in_range w.in-Ok.ensures.within.0 c.loop-turn.invariant.consumed w.in-Ok.ensures.bytes.0;
     passed = Passed-given _ _ _ _ _ c.loop-turn.invariant.passed w.in-Ok.ensures.counted;
   })
   | in-Err w ↦ rw w.filled-is (record {

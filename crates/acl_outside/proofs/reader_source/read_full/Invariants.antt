@@ -3,7 +3,7 @@ use Rattle.std.specs.Io.KnownBytes.{Consumes}
 use Rattle.acl_outside.proofs.Trying.{Passed}
 use Rattle.acl_outside.proofs.reader_source.read_full.Given as goal
 
--- what stands in front of the next place was consumed
+-- the bytes filled so far were consumed
 abbrev pub invariant-loop-turn : goal.invariant-loop-turn
 invariant-loop-turn g l = record {
   in_range : l.filled ≤ length l.into;

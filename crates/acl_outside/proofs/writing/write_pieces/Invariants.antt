@@ -1,5 +1,5 @@
 use Rattle.std.proofs.Common.{drop}
-use Rattle.acl_outside.specs.Writing.{all_of}
+use Rattle.acl_outside.specs.WrittenText.{all_of}
 use Rattle.acl_outside.proofs.Remaining.{Remains}
 use Rattle.acl_outside.proofs.writing.write_pieces.Given as goal
 

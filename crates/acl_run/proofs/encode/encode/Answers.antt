@@ -2,7 +2,7 @@ use Rattle.std.proofs.Common.{ℕ, List, refl, subst}
 use Rattle.acl_outcome.specs.Ends.{end_of}
 use Rattle.acl_run.specs.Encode.{root_line}
 use Rattle.acl_run.specs.Readers.{most_key_bytes}
-use Rattle.acl_run.specs.Texts.{WritesText, WritesNote}
+use Rattle.acl_run.specs.WrittenTexts.{WritesText, WritesNote}
 use Rattle.acl_run.proofs.Facts.{whatever_told}
 use Rattle.acl_run.proofs.EncodeSteps.{ends_at_document, ends_at_file, ends_at_noting, due_is_made, due_note_is_made, document-text, document-note_text, file-text, file-note_text}
 use Rattle.acl_run.proofs.Lengths.{ends_at_input, file-not_long, keys_end, keys_not_long, long_anyway, noting-not_long, other_end}

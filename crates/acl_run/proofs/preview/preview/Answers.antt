@@ -3,9 +3,9 @@ use Rattle.acl_outcome.specs.Ends.{end_of}
 use Rattle.acl_model.specs.declared.rule.Rule.{Rule}
 use Rattle.acl_run.specs.Preview.{wanted_by, wanted_text}
 use Rattle.acl_run.specs.Readers.{most_key_bytes}
-use Rattle.acl_words.specs.Request.{meant_shown}
+use Rattle.acl_words.specs.inside.Request.{meant_shown}
 use Rattle.acl_run.specs.Steps.{OrNoMemory}
-use Rattle.acl_run.specs.Texts.{WritesText}
+use Rattle.acl_run.specs.WrittenTexts.{WritesText}
 use Rattle.acl_run.proofs.Facts.{whatever_told}
 use Rattle.acl_run.proofs.Lengths.{ends_at_input, long_anyway, other_end, query-not_long, rules_end, rules_not_long, writing-not_long}
 use Rattle.acl_run.proofs.PreviewSteps.{ends_at_rules, ends_at_wanted, ends_at_document, ends_at_showing, due_is_made, document-text}

@@ -2,11 +2,11 @@ use Rattle.std.proofs.Common.{Ok, Err, sym, subst}
 use Rattle.acl_model.specs.declared.document.Doc.{Doc}
 use Rattle.acl_outside.specs.Outside.{CountsWhere}
 use Rattle.fragment_open.proofs.ClimbLemmas.{Told-weaker}
-use Rattle.fragment_open.specs.Checked.{AreOpeningsChecked}
+use Rattle.fragment_open.specs.Checked.{AllFoldUnlessRefused}
 use Rattle.file_reading.specs.FileEnds.{FileEnds, IsRefusedWhereShown, IsRefusedWithoutDocument, is_bad_fragment}
 use Rattle.acl_outcome.specs.declared.outcome.Outcome.{Outcome}
 use Rattle.acl_outcome.specs.Ends.{store, end_of, is_fault_of}
-use Rattle.acl_run.specs.Opening.{IsHonestEnd, IsStoreRefused, IsStoreWithoutDocument}
+use Rattle.acl_run.specs.inside.Opening.{IsHonestEnd, IsStoreRefused, IsStoreWithoutDocument}
 use Rattle.acl_run.specs.Outcomes.{is_bad_fragment_outcome}
 use Rattle.acl_run.proofs.StoreEnds.{document_refused, fault_checked, fault_without, fault_counts, fault_refused, honest_ends, still_told}
 use Rattle.acl_run.proofs.readers.read_store.Goals as goal
@@ -48,8 +48,8 @@ returns-in-Ok-clause-exact g c =
 
 pub returns-in-Err-clause-checked : goal.returns-in-Err-clause-checked
 returns-in-Err-clause-checked g c =
-    Told-weaker (g.S.Store.served c.args.store.now) (g.S.Store.served c.read_file.new.store) (λ reads. AreOpeningsChecked (is_bad_fragment {T = Doc} (Err c.in-Err.fault)) reads)
-    (λ reads. AreOpeningsChecked (is_bad_fragment_outcome c.store_outcome.result) reads) c.in-Err.ensures.checked
+    Told-weaker (g.S.Store.served c.args.store.now) (g.S.Store.served c.read_file.new.store) (λ reads. AllFoldUnlessRefused (is_bad_fragment {T = Doc} (Err c.in-Err.fault)) reads)
+    (λ reads. AllFoldUnlessRefused (is_bad_fragment_outcome c.store_outcome.result) reads) c.in-Err.ensures.checked
     (λ reads checked. fault_checked c.in-Err.fault c.store_outcome.result reads c.store_outcome.ensures checked)
 
 pub returns-in-Err-clause-shown_index : goal.returns-in-Err-clause-shown_index

@@ -3,7 +3,7 @@ use Rattle.std.proofs.Common.{refl}
 use Rattle.acl_outcome.specs.Ends.{end_of}
 use Rattle.acl_run.specs.Readers.{most_key_bytes}
 use Rattle.acl_run.proofs.Lengths.{ends_at_input, keys_end, keys_not_long, long_anyway, within_anyway}
-use Rattle.acl_run.proofs.SealSteps.{ends_at_body, ends_behind}
+use Rattle.acl_run.proofs.SealSteps.{ends_at_body, ends_after}
 use Rattle.acl_run.proofs.seal.seal.Goals as goal
 
 pub returns-in-Err-read_sealed-clause-order : goal.returns-in-Err-read_sealed-clause-order
@@ -13,12 +13,12 @@ returns-in-Err-read_sealed-clause-order g c =
 
 pub returns-in-Ok-write_text-clause-order : goal.returns-in-Ok-write_text-clause-order
 returns-in-Ok-write_text-clause-order g c =
-    ends_behind (g.K.Source.left c.args.keys.now) (g.Q.Source.left c.args.input.now) c.in-Ok.secret c.in-Ok-read_sealed.text Done
+    ends_after (g.K.Source.left c.args.keys.now) (g.Q.Source.left c.args.input.now) c.in-Ok.secret c.in-Ok-read_sealed.text Done
     c.in-Ok.ensures.answer c.in-Ok-read_sealed.ensures.answer refl
 
 pub returns-clause-order : goal.returns-clause-order
 returns-clause-order g c =
-    ends_behind (g.K.Source.left c.args.keys.now) (g.Q.Source.left c.args.input.now) c.in-Ok.secret c.in-Ok-read_sealed.text SinkFault
+    ends_after (g.K.Source.left c.args.keys.now) (g.Q.Source.left c.args.input.now) c.in-Ok.secret c.in-Ok-read_sealed.text SinkFault
     c.in-Ok.ensures.answer c.in-Ok-read_sealed.ensures.answer refl
 
 -- ---- lengths

@@ -1,8 +1,8 @@
 use Rattle.std.proofs.Common.{rules, map, string_bytes, refl}
 use Rattle.acl_outcome.specs.Ends.{end_of}
 use Rattle.acl_words.specs.Command.{Command}
-use Rattle.acl_words.specs.Request.{meant_shown}
-use Rattle.acl_words.specs.Words.{words_of}
+use Rattle.acl_words.specs.inside.Request.{meant_shown}
+use Rattle.acl_words.specs.CommandLines.{words_of}
 use Rattle.acl_run.proofs.Facts.{whatever_told}
 use Rattle.acl_run.specs.Outcomes.{is_bad_fragment_outcome}
 use Rattle.acl_run.specs.Readers.{most_key_bytes}
@@ -157,7 +157,7 @@ pub returns-in-Some-View-clause-refused : goal.returns-in-Some-View-clause-refus
 returns-in-Some-View-clause-refused g c =
     where_taken (Command.view (meant_shown c.in-Some-View.shown)) (words_of (map string_bytes c.args.words.now)) _ (search rules) c.view.ensures.refused
 
--- ---- lengths, and what the store served alone
+-- ---- lengths, and what the reads show without root and key
 
 pub returns-in-Some-Preview-clause-long_keys : goal.returns-in-Some-Preview-clause-long_keys
 returns-in-Some-Preview-clause-long_keys g c =
@@ -250,7 +250,7 @@ returns-in-Some-Seal-clause-checked g c = unasked_checked (is_bad_fragment_outco
 pub returns-in-Some-Sample-clause-checked : goal.returns-in-Some-Sample-clause-checked
 returns-in-Some-Sample-clause-checked g c = unasked_checked (is_bad_fragment_outcome c.sample.result) (g.S.Store.served c.args.store.now)
 
--- ---- of which document the file is
+-- ---- which document the reads show
 
 pub returns-in-Some-Preview-clause-read : goal.returns-in-Some-Preview-clause-read
 returns-in-Some-Preview-clause-read g c =

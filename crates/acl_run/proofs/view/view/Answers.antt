@@ -7,14 +7,14 @@ use Rattle.fragment_open.specs.Served.{IsRegular}
 use Rattle.fragment_open.proofs.ClimbLemmas.{Told-weaker}
 use Rattle.file_reading.specs.FileEnds.{FileEnds}
 use Rattle.acl_words.specs.Command.{Command}
-use Rattle.acl_run.specs.Headline.{EndsWithoutDocument, WritesShown, HasServedCause, HasStoreCause, IsOfNoBytes, IsRefusedAsServed, IsRefusedAsShown}
-use Rattle.acl_run.specs.Opening.{IsStoreRefused, IsStoreWithoutDocument, StoreEnds}
+use Rattle.acl_run.specs.Headline.{EndsWithoutDocument, WritesShown, HasServedCause, HasStoreCause, IsUnrefusedEnd, IsRefusedAsServed, IsRefusedAsShown}
+use Rattle.acl_run.specs.inside.Opening.{IsStoreRefused, IsStoreWithoutDocument, StoreEnds}
 use Rattle.acl_run.specs.Outcomes.{is_bad_fragment_outcome}
 use Rattle.acl_run.specs.Preview.{wanted_by, wanted_text}
 use Rattle.acl_run.specs.Readers.{most_key_bytes}
-use Rattle.acl_words.specs.Request.{meant_shown}
+use Rattle.acl_words.specs.inside.Request.{meant_shown}
 use Rattle.acl_run.specs.Steps.{OrNoMemory}
-use Rattle.acl_run.specs.Texts.{WhereWhole, WritesText}
+use Rattle.acl_run.specs.WrittenTexts.{WhereWhole, WritesText}
 use Rattle.acl_run.proofs.HeadlineLemmas.{cause_anyway, due_anyway, each_due, held_due, opened_anyway, prefix_of_none, reads_are, unasked, unshown, unshown_document, written_shown}
 use Rattle.acl_run.proofs.HonestEnds.{keys_honest, licence_honest, wanted_honest, store_honest, writing_prefix, writing_whole, writing_honest}
 use Rattle.acl_run.proofs.Lengths.{ends_at_input, keys_end, keys_not_long, long_anyway, opening-not_long, other_end, query-not_long, writing-not_long}
@@ -195,7 +195,7 @@ returns-clause-honest g c =
     held_due (meant_shown c.args.shown) (g.K.Source.left c.args.keys.now) (g.Q.Source.left c.args.input.now) c.in-Ok.secret c.in-Ok-read_sealed_licence.licence c.in-Ok-read_wanted.wanted
     (subst (λ (user : List ℕ). wanted_by user (meant_shown c.args.shown) ≡ Ok c.in-Ok-read_wanted.wanted) c.as_slice.ensures c.in-Ok-read_wanted.ensures.answer)
     c.in-Ok.ensures.answer c.in-Ok-read_sealed_licence.ensures.answer
-    (g.S.Store.holds c.args.store.now) c.in-Ok-read_store.doc (λ text. IsOfNoBytes (end_of c.show.result) × WhereWhole (end_of c.show.result) (Appends (g.W.Sink.written c.args.out.now) (g.W.Sink.written c.show.new.out) text)) c.in-Ok-read_store.ensures.held (
+    (g.S.Store.holds c.args.store.now) c.in-Ok-read_store.doc (λ text. IsUnrefusedEnd (end_of c.show.result) × WhereWhole (end_of c.show.result) (Appends (g.W.Sink.written c.args.out.now) (g.W.Sink.written c.show.new.out) text)) c.in-Ok-read_store.ensures.held (
       writing_honest (end_of c.show.result) c.show.ensures.ends,
       writing_whole (end_of c.show.result) (g.W.Sink.written c.args.out.now) (g.W.Sink.written c.show.new.out) (wanted_text c.in-Ok-read_store.doc c.in-Ok-read_sealed_licence.licence.rules c.in-Ok-read_wanted.wanted) c.show.ensures.ends
           (subst (λ (rules : List Rule). WritesText (end_of c.show.result) (g.W.Sink.written c.args.out.now) (g.W.Sink.written c.show.new.out) (wanted_text c.in-Ok-read_store.doc rules c.in-Ok-read_wanted.wanted)) c.as_slice-2.ensures c.show.ensures.text),
@@ -218,7 +218,7 @@ returns-clause-refused g c =
     (λ reads keys licence wanted. IsRefusedAsShown c.show.result licence.root keys.document reads) c.in-Ok-read_store.ensures.exact
     (unrefused_so c.in-Ok-read_store.doc c.show.result c.in-Ok-read_sealed_licence.licence.root c.in-Ok.secret.document)
 
--- ---- lengths, and what the store served alone
+-- ---- lengths, and what the reads show without root and key
 
 pub returns-in-Err-clause-long_keys : goal.returns-in-Err-clause-long_keys
 returns-in-Err-clause-long_keys g c =
@@ -336,7 +336,7 @@ returns-clause-checked g c =
     checked_anyway (is_bad_fragment_outcome c.show.result) (g.S.Store.served c.args.store.now) (g.S.Store.served c.read_store.new.store)
     c.in-Ok-read_store.ensures.checked
 
--- ---- of which document the file is
+-- ---- which document the reads show
 
 pub returns-in-Err-clause-read : goal.returns-in-Err-clause-read
 returns-in-Err-clause-read g c =

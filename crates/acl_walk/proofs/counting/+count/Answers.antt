@@ -1,10 +1,11 @@
--- Behind the attributes three events and theirs are counted, and behind the items all.
+-- After the attributes, three events and those of the attributes are counted; after the items, all
+-- events are.
 use Rattle.std.proofs.Common.{◌≡◌, [], length, min, drop, ap, sym, ◌∙◌, ◌-◌, ◌^◌, arith}
 use Rattle.std.specs.List.{flat_map}
 use Rattle.std.proofs.lemmas.List.{drop_all, length-map}
 use Rattle.acl_model.specs.declared.document.Item.TheVariants.{Child}
-use Rattle.acl_walk.specs.EventEquations.{item_events-Text, item_events-Child}
-use Rattle.acl_walk.specs.OpenElements.{items_events}
+use Rattle.acl_walk.specs.inside.EventEquations.{item_events-Text, item_events-Child}
+use Rattle.acl_walk.specs.inside.OpenElements.{items_events}
 use Rattle.acl_walk.specs.Pieces.{pieces}
 use Rattle.acl_walk.specs.TreeEvents.{attribute_events, item_events}
 use Rattle.acl_walk.specs.declared.event.Event.TheVariants.{Text}

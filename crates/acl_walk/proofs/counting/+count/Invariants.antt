@@ -1,7 +1,7 @@
--- What was counted and what is left are all, as far as the greatest number.
+-- The count so far and the events that are left give the whole count, up to the greatest u64.
 use Rattle.std.proofs.Common.{◌≡◌, ◌+◌, ◌-◌, ◌^◌, ◌≤◌, ℕ, List, length, min, drop}
 use Rattle.std.specs.List.{flat_map}
-use Rattle.acl_walk.specs.OpenElements.{items_events}
+use Rattle.acl_walk.specs.inside.OpenElements.{items_events}
 use Rattle.acl_walk.specs.TreeEvents.{attribute_events, element_events}
 use Rattle.acl_walk.proofs.counting.+count.Given as goal
 

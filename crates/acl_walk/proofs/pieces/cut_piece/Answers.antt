@@ -1,6 +1,6 @@
 use Rattle.std.proofs.Common.{◌∷◌, [], false, drop, ap, sym, ◌∙◌}
 use Rattle.acl_walk.specs.Pieces.{piece_of, pieces}
-use Rattle.acl_walk.specs.PieceLaws.{pieces-short, pieces-long}
+use Rattle.acl_walk.specs.inside.PieceLaws.{pieces-short, pieces-long}
 use Rattle.acl_walk.proofs.pieces.cut_piece.Goals as goal
 
 pub returns-then-bytes-le-PIECE : goal.returns-then-bytes-le-PIECE

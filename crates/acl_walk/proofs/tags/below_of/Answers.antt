@@ -1,6 +1,6 @@
 use Rattle.std.proofs.Common.{ap, sym, ◌∙◌}
 use Rattle.std.specs.List.{range_with_len}
-use Rattle.acl_walk.specs.TagLaws.{told_below-all, told_below-none}
+use Rattle.acl_walk.specs.inside.TagLaws.{told_below-all, told_below-none}
 use Rattle.acl_walk.proofs.tags.below_of.Goals as goal
 
 pub returns-then-may_hold_element : goal.returns-then-may_hold_element

@@ -1,6 +1,6 @@
 use Rattle.std.proofs.Common.{ap, sym, ◌∙◌}
 use Rattle.std.specs.Option.{unwrap_or}
-use Rattle.acl_walk.specs.TagLaws.{tag_number-dummy, tag_number-name}
+use Rattle.acl_walk.specs.inside.TagLaws.{tag_number-dummy, tag_number-name}
 use Rattle.acl_walk.proofs.tags.tag_of.Goals as goal
 
 pub returns-then-is_dummy : goal.returns-then-is_dummy

@@ -1,5 +1,5 @@
 use Rattle.std.proofs.Common.{◌∷◌, List, length, ap, ◌∙◌}
-use Rattle.acl_walk.specs.OpenElements.{OpenElement}
+use Rattle.acl_walk.specs.inside.OpenElements.{OpenElement}
 use Rattle.acl_walk.specs.TreeEvents.{told_below, tag_number}
 use Rattle.acl_walk.proofs.StepLaws.{begin-steps}
 use Rattle.acl_walk.proofs.tree_step.begin.Goals as goal

@@ -1,4 +1,4 @@
--- One unknown name decides, and none is left behind the last item.
+-- One unknown name decides, and after the last item no name is left.
 use Rattle.std.proofs.Common.{◌≡◌, ◌&&◌, true, false, [], drop, ap, sym, ◌∙◌}
 use Rattle.std.specs.List.{list_all}
 use Rattle.std.proofs.lemmas.List.{drop_all}

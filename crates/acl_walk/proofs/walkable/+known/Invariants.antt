@@ -1,4 +1,4 @@
--- The names in the items that are left are known exactly where those in all are.
+-- All names are known exactly if those in the items that are left are.
 use Rattle.std.proofs.Common.{◌≡◌, ℕ, List, map, drop}
 use Rattle.std.specs.List.{list_all, flat_map}
 use Rattle.acl_model.specs.Dictionary.{item_start_names}

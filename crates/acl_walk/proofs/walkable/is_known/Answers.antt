@@ -1,6 +1,6 @@
 use Rattle.std.proofs.Common.{◌||◌, is_some, ap, ◌∙◌}
 use Rattle.acl_model.specs.Dictionary.{has_name}
-use Rattle.acl_walk.specs.TagLaws.{is_some-name_number}
+use Rattle.acl_walk.specs.inside.TagLaws.{is_some-name_number}
 use Rattle.acl_walk.proofs.walkable.is_known.Goals as goal
 
 pub returns-else-is_dummy : goal.returns-else-is_dummy

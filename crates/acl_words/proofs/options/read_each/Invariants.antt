@@ -1,5 +1,5 @@
 use Rattle.std.proofs.Common.{◌≡◌, Some, drop, map, string_bytes}
-use Rattle.acl_words.specs.Request.{meant_reading}
+use Rattle.acl_words.specs.inside.Request.{meant_reading}
 use Rattle.acl_words.specs.Options.{reading_from, reading_of}
 use Rattle.acl_words.proofs.options.read_each.Given as goal
 

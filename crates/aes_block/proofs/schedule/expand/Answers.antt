@@ -1,7 +1,7 @@
 use Rattle.std.proofs.Common.{◌≡◌, ℕ, ◌-◌, ◌≢◌, ◌++◌, List, length, get_or, set, refl, ap, ◌∙◌, sym, arith, bit_xor}
 use Rattle.std.proofs.lemmas.List.{get_or-set_other, length-set}
 use Rattle.aes_block.specs.Aes.{expanded_words, words_of_bytes, xor_bytes}
-use Rattle.aes_block.specs.Words.{word_bytes}
+use Rattle.aes_block.specs.inside.ColumnWords.{word_bytes}
 use Rattle.aes_block.proofs.ScheduleLemmas.{expansion_all, expansion_more}
 use Rattle.aes_block.proofs.WordLemmas.{word_bytes-xor}
 use Rattle.aes_block.proofs.schedule.expand.Goals as goal

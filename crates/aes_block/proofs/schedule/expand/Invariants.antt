@@ -1,6 +1,6 @@
 use Rattle.std.proofs.Common.{◌≡◌, ◌-◌, length, map, take}
 use Rattle.aes_block.specs.Aes.{expanded_words}
-use Rattle.aes_block.specs.Words.{block_of_round, word_bytes}
+use Rattle.aes_block.specs.inside.ColumnWords.{block_of_round, word_bytes}
 use Rattle.aes_block.proofs.schedule.expand.Given as goal
 
 abbrev pub invariant-further : goal.invariant-further

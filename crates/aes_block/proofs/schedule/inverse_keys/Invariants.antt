@@ -1,6 +1,6 @@
 use Rattle.std.proofs.Common.{◌≡◌, ℕ, ◌<◌, ◌≤◌, length, get_or}
 use Rattle.aes_block.specs.Aes.{inverse_mix_word}
-use Rattle.aes_block.specs.Words.{word_bytes, times_word}
+use Rattle.aes_block.specs.inside.ColumnWords.{word_bytes, times_word}
 use Rattle.aes_block.proofs.schedule.inverse_keys.Given as goal
 
 abbrev pub invariant-mix : goal.invariant-mix

@@ -1,7 +1,7 @@
 use Rattle.std.proofs.Common.{◌∙◌, arith}
 use Rattle.std.specs.Prelude.{slice_index}
 use Rattle.aes_block.specs.Aes.{inverse_mix_word, inverse_sub_byte, word_product}
-use Rattle.aes_block.specs.Words.{word_byte}
+use Rattle.aes_block.specs.inside.ColumnWords.{word_byte}
 use Rattle.aes_block.proofs.Substitution.{inverse_sub_byte-sub_byte}
 use Rattle.aes_block.proofs.schedule.inverse_mixed_word.Goals as goal
 

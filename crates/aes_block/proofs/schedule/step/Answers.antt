@@ -1,6 +1,6 @@
 use Rattle.std.proofs.Common.{ℕ, ◌-◌, ◌/◌, [], ◌∷◌, ap, ◌∙◌, arith}
 use Rattle.aes_block.specs.Aes.{rot_word, sub_word, xor_bytes}
-use Rattle.aes_block.specs.Words.{word_bytes}
+use Rattle.aes_block.specs.inside.ColumnWords.{word_bytes}
 use Rattle.aes_block.proofs.TableEntries.{round_constant_at}
 use Rattle.aes_block.proofs.schedule.step.Goals as goal
 

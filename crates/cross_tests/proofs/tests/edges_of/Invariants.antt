@@ -1,6 +1,6 @@
 -- The spot stays one that the walk made.
 use Rattle.std.proofs.Common.{◌≡◌}
-use Rattle.acl_walk.specs.TreeSpots.{IsSpotOf}
+use Rattle.acl_walk.specs.inside.TreeSpots.{IsSpotOf}
 use Rattle.cross_tests.proofs.tests.edges_of.Given as goal
 
 abbrev pub invariant-loop-event : goal.invariant-loop-event

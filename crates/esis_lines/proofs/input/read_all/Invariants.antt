@@ -2,7 +2,8 @@ use Rattle.std.proofs.Common.{◌≡◌, ◌-◌, ◌≤◌, is_some, vec_len}
 use Rattle.std.specs.Io.KnownBytes.{Consumes}
 use Rattle.esis_lines.proofs.input.read_all.Given as goal
 
--- The bytes taken so far are the first of those that were to come, and no more than are asked for. No fault was counted.
+-- The bytes taken so far are the first of those that were to come, and no more than are asked for. No fault was
+-- counted.
 abbrev pub invariant-reads : goal.invariant-reads
 invariant-reads g l = record {
   taken : Consumes (g.Q.Source.left l.initial.source) (g.Q.Source.left l.source) l.bytes.items;

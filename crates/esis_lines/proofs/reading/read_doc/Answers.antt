@@ -1,6 +1,6 @@
 use Rattle.std.proofs.Common.{ℕ, List, subst}
-use Rattle.esis_lines.specs.Answers.{ButForMemory}
-use Rattle.esis_lines.specs.Machine.{read_doc_of}
+use Rattle.esis_lines.specs.DocumentAnswers.{ButForMemory}
+use Rattle.esis_lines.specs.LineMachine.{read_doc_of}
 use Rattle.esis_lines.proofs.Answering.{whole_answer, whole_count, whole_form, whole_taken}
 use Rattle.esis_lines.proofs.reading.read_doc.Goals as goal
 

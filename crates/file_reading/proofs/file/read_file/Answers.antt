@@ -3,10 +3,10 @@ use Rattle.std.proofs.lemmas.Result.{err_from_is_err_and}
 use Rattle.std.specs.Prelude.{Ok, Err, Vec}
 use Rattle.std.specs.declared.alloc.Global.{Global}
 use Rattle.acl_model.specs.declared.document.Doc.{Doc}
-use Rattle.fragment_open.specs.Checked.{AreOpeningsChecked}
+use Rattle.fragment_open.specs.Checked.{AllFoldUnlessRefused}
 use Rattle.file_reading.specs.declared.fault.FileFault.TheVariants.{Refused}
 use Rattle.file_reading.specs.FileEnds.{FileEnds, IsRefusedWhereShown, OpensInOrder, is_bad_fragment}
-use Rattle.file_reading.specs.FileFaults.{fault_of_index}
+use Rattle.file_reading.specs.inside.FileFaults.{fault_of_index}
 use Rattle.file_reading.proofs.FileLemmas.{decoded_checked, document_held, document_told, holds_so, index_told, not_started-ends, root_so, stream_fault_told, told-since}
 use Rattle.file_reading.proofs.OrderLemmas.{err_order, not_started_order, ok_order}
 use Rattle.file_reading.proofs.ShownLemmas.{err_exact, not_started_exact, ok_exact}
@@ -56,7 +56,7 @@ returns-clause-held g c = λ d is root.
     (root_so c.args.root c.args.key head.header head.top head.key under a b c.in_ok-head.ensures.constant d is root))
     c.in_ok-decode_all.ensures.document
 
--- ---- what the reads show is answered
+-- ---- the answer is the refusal that the reads show
 
 pub returns-in_err-head-clause-exact : goal.returns-in_err-head-clause-exact
 returns-in_err-head-clause-exact g c =
@@ -114,7 +114,7 @@ returns-clause-in_order g c =
     (OpensInOrder (Ok c.in_ok-decode_all.field-0)) c.in_ok-head.ensures.told c.in_ok-stream.ensures.grown
     (ok_order (Vec ℕ Global) c.in_ok-stream.stream Doc (Ok c.in_ok-decode_all.field-0) (g.S.Store.served c.read_stream.new.store) c.in_ok-stream.ensures.in_order)
 
--- ---- what the reads show of the document is answered
+-- ---- the answer is what the reads show of the document
 
 pub returns-in_err-head-clause-shown_index : goal.returns-in_err-head-clause-shown_index
 returns-in_err-head-clause-shown_index g c =
@@ -163,18 +163,18 @@ returns-in_err-stream-clause-checked g c =
     let p = err_from_is_err_and c.from_residual-in_err-stream.result c.from_residual-in_err-stream.ensures.1 in
     let head = c.in_ok-head.head in
     rw (p.1, p.2) (told-since head.header head.top (g.S.Store.served c.args.store.now) (g.S.Store.served c.begin.new.store) (g.S.Store.served c.read_stream.new.store)
-    (λ reads. AreOpeningsChecked (is_bad_fragment {T = Doc} (Err c.in_err-stream.field-0.0)) reads) c.in_ok-head.ensures.told c.in_err-stream.ensures.grown c.in_err-stream.ensures.checked)
+    (λ reads. AllFoldUnlessRefused (is_bad_fragment {T = Doc} (Err c.in_err-stream.field-0.0)) reads) c.in_ok-head.ensures.told c.in_err-stream.ensures.grown c.in_err-stream.ensures.checked)
 
 pub returns-in_err-decode_all-clause-checked : goal.returns-in_err-decode_all-clause-checked
 returns-in_err-decode_all-clause-checked g c =
     let head = c.in_ok-head.head in
     told-since head.header head.top (g.S.Store.served c.args.store.now) (g.S.Store.served c.begin.new.store) (g.S.Store.served c.read_stream.new.store)
-    (λ reads. AreOpeningsChecked (is_bad_fragment c.from_residual-in_err-decode_all.result) reads) c.in_ok-head.ensures.told c.in_ok-stream.ensures.grown
+    (λ reads. AllFoldUnlessRefused (is_bad_fragment c.from_residual-in_err-decode_all.result) reads) c.in_ok-head.ensures.told c.in_ok-stream.ensures.grown
     (decoded_checked (g.S.Store.served c.read_stream.new.store) (is_bad_fragment c.from_residual-in_err-decode_all.result) c.in_ok-stream.ensures.checked)
 
 pub returns-clause-checked : goal.returns-clause-checked
 returns-clause-checked g c =
     let head = c.in_ok-head.head in
     told-since head.header head.top (g.S.Store.served c.args.store.now) (g.S.Store.served c.begin.new.store) (g.S.Store.served c.read_stream.new.store)
-    (λ reads. AreOpeningsChecked (is_bad_fragment (Ok c.in_ok-decode_all.field-0)) reads) c.in_ok-head.ensures.told c.in_ok-stream.ensures.grown
+    (λ reads. AllFoldUnlessRefused (is_bad_fragment (Ok c.in_ok-decode_all.field-0)) reads) c.in_ok-head.ensures.told c.in_ok-stream.ensures.grown
     (decoded_checked (g.S.Store.served c.read_stream.new.store) (is_bad_fragment (Ok c.in_ok-decode_all.field-0)) c.in_ok-stream.ensures.checked)

@@ -97,7 +97,7 @@ returns-in_err-fetch-clause-held g c = λ d is root.
     (g.S.Store.holds c.args.opener.now.store.now) (g.S.Store.holds c.loop-index.opener.store.now) c.loop-index.invariant.constant
     (λ e. IsHonestFault (Refused c.in_err-fetch.field-0.0)) c.in_err-fetch.ensures.held d is root)
 
--- ---- memory is wanting
+-- ---- memory runs out
 
 pub returns-in_err-extend_from_slice-clause-grown : goal.returns-in_err-extend_from_slice-clause-grown
 returns-in_err-extend_from_slice-clause-grown g c =
@@ -132,7 +132,7 @@ returns-in_err-extend_from_slice-clause-reading g c =
     stopped_reading start.head.header start.head.top start.head.key (g.S.Store.served start.store.now) (g.S.Store.served c.fetch.new.self.store.now)
     c.from_residual-in_err-extend_from_slice.result p.0 p.1 p.2
 
--- ---- one fragment more
+-- ---- one more fragment
 
 pub loop-index-preserved : goal.loop-index-preserved
 loop-index-preserved g c =
@@ -167,7 +167,7 @@ loop-index-preserved g c =
           (omega (arith, c.loop-index-test.true, inv.count)) inv.held c.in_ok-fetch.ensures.held);
     }
 
--- ---- behind the last fragment
+-- ---- after the last fragment
 
 pub returns-clause-ends : goal.returns-clause-ends
 returns-clause-ends g c =

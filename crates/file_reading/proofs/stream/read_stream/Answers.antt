@@ -3,7 +3,7 @@ use Rattle.std.specs.Prelude.{None, IfSome}
 use Rattle.std.specs.List.{list_any}
 use Rattle.fragment_open.specs.declared.head.Head.{Head}
 use Rattle.fragment_open.specs.Settled.{is_start, root_by, since}
-use Rattle.fragment_open.specs.Told.{Told}
+use Rattle.fragment_open.specs.CallReads.{Told}
 use Rattle.file_reading.specs.FileEnds.{GoesOnInOrder, GoesOnReading, HeldEnds, IsRefusedWhereShown, OpensInOrder, StreamEnds, StreamShown}
 use Rattle.file_reading.proofs.ReadingLemmas.{fresh_shown}
 use Rattle.file_reading.proofs.StreamLemmas.{held_fault}

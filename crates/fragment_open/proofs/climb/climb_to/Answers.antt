@@ -2,8 +2,8 @@ use Rattle.std.proofs.Common.{◌≡◌, ◌+◌, ℕ, ap, sym, subst, ◌∙◌
 use Rattle.std.proofs.lemmas.Result.{err_from_is_err_and}
 use Rattle.merkle_chunks.proofs.CountLemmas.{top_level-low}
 use Rattle.fragment_open.specs.Asks.{index_at}
-use Rattle.fragment_open.specs.Told.{Told}
-use Rattle.fragment_open.specs.Climbing.{Climbs}
+use Rattle.fragment_open.specs.CallReads.{Told}
+use Rattle.fragment_open.specs.inside.Climbing.{Climbs}
 use Rattle.fragment_open.specs.Held.{digest_held}
 use Rattle.fragment_open.proofs.HeldLemmas.{still_holds}
 use Rattle.fragment_open.proofs.ClimbLemmas.{told_climb, told_end}

@@ -2,8 +2,8 @@ use Rattle.std.proofs.Common.{◌≡◌, ◌-◌, ◌≤◌, ℕ, List}
 use Rattle.acl_model.specs.declared.document.Doc.{Doc}
 use Rattle.acl_outside.specs.Outside.{NotFallen}
 use Rattle.fragment_open.specs.Asks.{index_at}
-use Rattle.fragment_open.specs.Told.{Told}
-use Rattle.fragment_open.specs.Climbing.{Climbs, IsNext}
+use Rattle.fragment_open.specs.CallReads.{Told}
+use Rattle.fragment_open.specs.inside.Climbing.{Climbs, IsNext}
 use Rattle.fragment_open.specs.Held.{HoldsFile, digest_held}
 use Rattle.fragment_open.proofs.climb.climb_to.Given as goal
 

@@ -11,7 +11,7 @@ pub returns-then-is_end : goal.returns-then-is_end
 returns-then-is_end c =
     Reads-along _ _ _
     (c.loop-text.invariant.goes_on ∙ rules_from-end _ _ _ _ _ _ c.in-Some.ensures.lines (sym c.is_end.ensures ∙ c.if-is_end.true)
-    ∙ ap (λ (rs : List Rule). rules_at_end c.loop-text.line rs (lines c.in-Some.behind.now)) (sym c.from_vec.ensures)) c.rules_at_end.ensures
+    ∙ ap (λ (rs : List Rule). rules_at_end c.loop-text.line rs (lines c.in-Some.after.now)) (sym c.from_vec.ensures)) c.rules_at_end.ensures
 
 pub returns-in_err-rule : goal.returns-in_err-rule
 returns-in_err-rule c =
@@ -32,7 +32,7 @@ loop-text-preserved c =
     let number = c.loop-text.invariant.number in record {
       goes_on = c.loop-text.invariant.goes_on
           ∙ rules_from-next _ _ _ c.in_ok-rule.rule _ _ _ c.in-Some.ensures.lines (sym c.is_end.ensures ∙ c.if-is_end.false) next
-          ∙ ap (λ (rs : List Rule). rules_from c.args.user.now (c.loop-text.line + 1) rs (lines c.in-Some.behind.now)) (sym more);
+          ∙ ap (λ (rs : List Rule). rules_from c.args.user.now (c.loop-text.line + 1) rs (lines c.in-Some.after.now)) (sym more);
       number = omega (arith, number, count, length-append {A = Rule});
       few = omega (arith, room, count, length-append {A = Rule});
     }

@@ -1,7 +1,7 @@
 use Rattle.std.proofs.Common.{[], ◌∷◌, ◌++◌, sym, subst, refl}
 use Rattle.acl_model.specs.Ascii.{line_feed}
 use Rattle.acl_model.specs.Explain.{place_text}
-use Rattle.acl_outside.specs.Writing.{Writes}
+use Rattle.acl_outside.specs.WrittenText.{Writes}
 use Rattle.acl_outside.proofs.Remaining.{Writes-then, Writes-cut, Writes-last}
 use Rattle.line_writer.proofs.ExplanationLaws.{explained_line-parts}
 use Rattle.line_writer.proofs.explanation_lines.write_explanation_line.Goals as goal

@@ -1,6 +1,6 @@
 use Rattle.std.proofs.Common.{◌≡◌, ◌∙◌, ◌+◌, ◌*◌, ◌/◌, ap, length, arith}
 use Rattle.merkle_chunks.specs.Table.{digest_count}
-use Rattle.merkle_chunks.specs.Levels.{width}
+use Rattle.merkle_chunks.specs.inside.LevelBytes.{width}
 use Rattle.merkle_chunks.proofs.CountLemmas.{half_up, digest_count-least}
 use Rattle.merkle_chunks.proofs.WriteLemmas.{none_above, single_is_top, room_above, more_above, same_top}
 use Rattle.merkle_chunks.proofs.table.+write_levels.Goals as goal

@@ -1,6 +1,6 @@
 use Rattle.std.proofs.Common.{◌∙◌, ◌/◌, ap, length, arith}
 use Rattle.sha2.specs.Sha256.{sha256}
-use Rattle.merkle_chunks.specs.Levels.{digests_in, parents}
+use Rattle.merkle_chunks.specs.inside.LevelBytes.{digests_in, parents}
 use Rattle.merkle_chunks.proofs.CountLemmas.{half_up}
 use Rattle.merkle_chunks.proofs.PieceLemmas.{length-first_chunks}
 use Rattle.merkle_chunks.proofs.TableLemmas.{length-parents}

@@ -1,7 +1,7 @@
 use Rattle.std.proofs.Common.{◌≡◌, ◌*◌, take}
 use Rattle.std.specs.List.{concat}
 use Rattle.sha2.specs.Sha256.{sha256}
-use Rattle.merkle_chunks.specs.Levels.{digests_in, parents}
+use Rattle.merkle_chunks.specs.inside.LevelBytes.{digests_in, parents}
 use Rattle.merkle_chunks.proofs.table.write_nodes.Given as goal
 
 -- the digests of the nodes so far are written

@@ -1,6 +1,6 @@
 use Rattle.std.proofs.Common.{take}
 use Rattle.std.specs.List.{list_any}
-use Rattle.predicate_walk.specs.States.{does_name}
+use Rattle.predicate_walk.specs.inside.States.{does_name}
 use Rattle.predicate_walk.specs.Truths.{preds_in}
 use Rattle.predicate_walk.proofs.NameLaws.{adds_none, adds_more, rows_added, step_named, way_added}
 use Rattle.predicate_walk.proofs.name_rows.add_way.Goals as goal

@@ -1,7 +1,7 @@
 use Rattle.std.proofs.Common.{take}
 use Rattle.std.specs.List.{list_any}
-use Rattle.predicate_walk.specs.States.{does_name}
-use Rattle.predicate_walk.specs.NameRows.{AreRows, AddsRows}
+use Rattle.predicate_walk.specs.inside.States.{does_name}
+use Rattle.predicate_walk.specs.inside.NameRows.{AreRows, AddsRows}
 use Rattle.predicate_walk.specs.Truths.{preds_in}
 use Rattle.predicate_walk.proofs.name_rows.add_way.Given as goal
 

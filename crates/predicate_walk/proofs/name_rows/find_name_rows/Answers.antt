@@ -1,6 +1,6 @@
 use Rattle.std.proofs.Common.{◌∙◌, ◌||◌, ap, sym, take}
 use Rattle.std.specs.List.{list_any}
-use Rattle.predicate_walk.specs.States.{does_name, is_named_in}
+use Rattle.predicate_walk.specs.inside.States.{does_name, is_named_in}
 use Rattle.predicate_walk.specs.Truths.{preds_in}
 use Rattle.predicate_walk.proofs.NameLaws.{adds_none, adds_more, rows_added, none_are, ref_named, all_added}
 use Rattle.predicate_walk.proofs.name_rows.find_name_rows.Goals as goal

@@ -1,6 +1,6 @@
 use Rattle.std.proofs.Common.{take}
-use Rattle.predicate_walk.specs.States.{is_named_in}
-use Rattle.predicate_walk.specs.NameRows.{AreRows, AddsRows}
+use Rattle.predicate_walk.specs.inside.States.{is_named_in}
+use Rattle.predicate_walk.specs.inside.NameRows.{AreRows, AddsRows}
 use Rattle.predicate_walk.specs.Truths.{preds_in}
 use Rattle.predicate_walk.proofs.name_rows.find_name_rows.Given as goal
 

@@ -1,5 +1,5 @@
 use Rattle.std.proofs.Common.{◌∙◌, ◌++◌, ap, map, reverse}
-use Rattle.predicate_walk.specs.States.{does_answer}
+use Rattle.predicate_walk.specs.inside.States.{does_answer}
 use Rattle.predicate_walk.proofs.RowLaws.{answer_step, answer_end}
 use Rattle.predicate_walk.proofs.rows.find_answers.Goals as goal
 

@@ -1,5 +1,5 @@
 use Rattle.std.proofs.Common.{◌≡◌, ◌++◌, drop}
-use Rattle.predicate_walk.specs.States.{does_answer, answers}
+use Rattle.predicate_walk.specs.inside.States.{does_answer, answers}
 use Rattle.predicate_walk.specs.Truths.{preds_in}
 use Rattle.predicate_walk.proofs.rows.find_answers.Given as goal
 

@@ -1,6 +1,6 @@
 use Rattle.std.proofs.Common.{◌≡◌, ◌<◌, ◌+◌, ◌-◌, ◌++◌, ◌∷◌, [], ◌∙◌, ap, map, reverse, take, length, arith}
 use Rattle.std.proofs.lemmas.List.{take_all}
-use Rattle.predicate_walk.specs.States.{does_answer}
+use Rattle.predicate_walk.specs.inside.States.{does_answer}
 use Rattle.predicate_walk.proofs.RowLaws.{push_step, push_end}
 use Rattle.predicate_walk.proofs.rows.push_answers.Goals as goal
 

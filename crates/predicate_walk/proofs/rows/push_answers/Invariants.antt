@@ -1,5 +1,5 @@
 use Rattle.std.proofs.Common.{◌≡◌, ◌≤◌, ◌++◌, map, reverse, take, length}
-use Rattle.predicate_walk.specs.States.{does_answer}
+use Rattle.predicate_walk.specs.inside.States.{does_answer}
 use Rattle.predicate_walk.proofs.rows.push_answers.Given as goal
 
 abbrev pub invariant-loop-left : goal.invariant-loop-left

@@ -1,5 +1,5 @@
 use Rattle.std.proofs.Common.{◌≡◌, ◌∙◌, ap, length, refl, arith}
-use Rattle.predicate_walk.specs.States.{number_of_states}
+use Rattle.predicate_walk.specs.inside.States.{number_of_states}
 use Rattle.predicate_walk.specs.Truths.{preds_in}
 use Rattle.predicate_walk.proofs.RowLaws.{put_targets_step, put_targets_end, put_targets_clear, length-inner_row_at}
 use Rattle.predicate_walk.proofs.TextLaws.{texts_are_there}

@@ -1,5 +1,5 @@
 use Rattle.std.proofs.Common.{◌≡◌, ◌+◌, ◌++◌, length, take, drop}
-use Rattle.predicate_walk.specs.States.{number_of_states, row_at, inner_row_at}
+use Rattle.predicate_walk.specs.inside.States.{number_of_states, row_at, inner_row_at}
 use Rattle.predicate_walk.specs.Truths.{preds_in}
 use Rattle.predicate_walk.proofs.targets.put_targets.Given as goal
 

@@ -1,5 +1,5 @@
 use Rattle.std.proofs.Common.{◌≡◌, ◌+◌, ◌≤◌, false, length, take, drop, replicate}
-use Rattle.predicate_walk.specs.States.{number_of_states, last_states, patched}
+use Rattle.predicate_walk.specs.inside.States.{number_of_states, last_states, patched}
 use Rattle.predicate_walk.specs.Truths.{preds_in}
 use Rattle.predicate_walk.proofs.targets.put_truths.Given as goal
 

@@ -1,8 +1,8 @@
 use Rattle.std.proofs.Common.{◌≡◌, ◌+◌, ◌≤◌, ◌∙◌, ◌++◌, ap, sym, false, length, take, drop, replicate, refl, arith}
 use Rattle.acl_model.specs.Predicates.{descendants, below_item}
 use Rattle.acl_model.specs.Values.{string_value, value_of_item}
-use Rattle.predicate_walk.specs.States.{row_at, inner_row_at, last_states, patched, number_of_states}
-use Rattle.predicate_walk.specs.Texts.{needs_texts, kept}
+use Rattle.predicate_walk.specs.inside.States.{row_at, inner_row_at, last_states, patched, number_of_states}
+use Rattle.predicate_walk.specs.inside.KeptTexts.{needs_texts, kept}
 use Rattle.predicate_walk.specs.Truths.{truths_at, truths, preds_in}
 use Rattle.predicate_walk.proofs.RowLaws.{length-answers, length-row_at, last_states-held, truths_put, truths_room, truths_clear, length-truths}
 use Rattle.predicate_walk.proofs.WalkLaws.{length-with_item, row_step, item_step, row_end, texts_end, value_is, flags_end, count_is}

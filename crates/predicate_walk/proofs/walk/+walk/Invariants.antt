@@ -2,8 +2,8 @@ use Rattle.std.proofs.Common.{◌≡◌, ◌++◌, drop, length}
 use Rattle.std.specs.List.{flat_map}
 use Rattle.acl_model.specs.Predicates.{below_item}
 use Rattle.acl_model.specs.Values.{value_of_item}
-use Rattle.predicate_walk.specs.States.{number_of_states, with_items}
-use Rattle.predicate_walk.specs.Texts.{needs_texts, kept}
+use Rattle.predicate_walk.specs.inside.States.{number_of_states, with_items}
+use Rattle.predicate_walk.specs.inside.KeptTexts.{needs_texts, kept}
 use Rattle.predicate_walk.specs.Truths.{truths}
 use Rattle.predicate_walk.proofs.walk.+walk.Given as goal
 

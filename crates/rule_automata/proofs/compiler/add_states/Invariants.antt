@@ -1,4 +1,4 @@
--- The states so far and those of the steps left.
+-- The states so far, followed by those of the steps left, are those of all steps.
 use Rattle.std.proofs.Common.{◌≡◌, ◌++◌, drop}
 use Rattle.rule_automata.specs.Compile.{rule_states}
 use Rattle.rule_automata.proofs.compiler.add_states.Given as goal

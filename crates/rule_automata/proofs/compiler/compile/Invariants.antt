@@ -1,4 +1,4 @@
--- The states so far and those of the rules left.
+-- The states so far, followed by those of the rules left, are those of all rules.
 use Rattle.std.proofs.Common.{◌≡◌, ◌++◌, drop}
 use Rattle.rule_automata.specs.Compile.{states_from}
 use Rattle.rule_automata.proofs.compiler.compile.Given as goal

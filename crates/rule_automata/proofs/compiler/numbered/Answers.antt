@@ -1,4 +1,4 @@
--- One rule more is put, or passed by.
+-- A rule is added to the set, or left out.
 use Rattle.std.proofs.Common.{ℕ, List, ap, sym, eqb, ◌||◌, ◌∙◌}
 use Rattle.acl_bits.specs.Row.{row_of, is_member}
 use Rattle.rule_automata.proofs.StateLists.{numbers-put, numbers-pass}

@@ -1,4 +1,4 @@
--- The rules so far.
+-- The set has the rules of the sign so far.
 use Rattle.std.proofs.Common.{◌≡◌}
 use Rattle.rule_automata.proofs.StateLists.{numbers_before}
 use Rattle.rule_automata.proofs.compiler.numbered.Given as goal

@@ -1,4 +1,4 @@
--- The laws of StateLists.
+-- Proved in StateLists.
 use Rattle.rule_automata.proofs.StateLists.{length-states_from, closed-states_from}
 use Rattle.rule_automata.proofs.laws.a_step_has_a_state.Goals as goal
 

@@ -1,4 +1,4 @@
--- The laws of RunLaws.
+-- Proved in RunLaws.
 use Rattle.rule_automata.proofs.RunLaws.{selected_is, selected_at}
 use Rattle.rule_automata.proofs.laws.states_take_the_rules_that_select.Goals as goal
 

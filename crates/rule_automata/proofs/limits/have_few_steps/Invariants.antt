@@ -1,4 +1,4 @@
--- What is left of the most is what the rules left may have.
+-- `left` is what remains of the limit after the rules so far.
 use Rattle.std.proofs.Common.{◌≡◌, ◌+◌, drop}
 use Rattle.rule_automata.specs.Compile.{steps_in}
 use Rattle.rule_automata.proofs.limits.have_few_steps.Given as goal

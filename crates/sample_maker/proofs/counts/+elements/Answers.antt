@@ -1,6 +1,6 @@
--- A child has as many elements as the element that it is.
+-- An item that is a child has as many elements as its element.
 use Rattle.std.proofs.Common.{ap, arith}
-use Rattle.sample_maker.specs.Counts.{element_count, item_element_count}
+use Rattle.sample_maker.specs.inside.Counts.{element_count, item_element_count}
 use Rattle.sample_maker.proofs.CountEquations.{item_element_count-Child, total_item}
 use Rattle.sample_maker.proofs.counts.+elements.Goals as goal
 

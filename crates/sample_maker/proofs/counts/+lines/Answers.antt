@@ -1,6 +1,6 @@
--- A child has as many lines as the element that it is.
+-- An item that is a child has as many lines as its element.
 use Rattle.std.proofs.Common.{ap, arith}
-use Rattle.sample_maker.specs.Counts.{line_count, item_line_count}
+use Rattle.sample_maker.specs.inside.Counts.{line_count, item_line_count}
 use Rattle.sample_maker.proofs.CountEquations.{item_line_count-Child, total_item}
 use Rattle.sample_maker.proofs.counts.+lines.Goals as goal
 

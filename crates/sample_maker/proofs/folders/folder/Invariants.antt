@@ -1,4 +1,4 @@
--- The patient, and the acts before j.
+-- The items so far are the patient, and the acts before act j.
 use Rattle.std.proofs.Common.{◌≡◌, ◌-◌, ◌∷◌, map}
 use Rattle.sample_maker.specs.Hospital.{admin, act, one_to}
 use Rattle.sample_maker.proofs.folders.folder.Given as goal

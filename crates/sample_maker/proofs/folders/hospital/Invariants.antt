@@ -1,4 +1,4 @@
--- The folders before i.
+-- The folders so far are those before folder i.
 use Rattle.std.proofs.Common.{◌≡◌, ◌-◌, map}
 use Rattle.sample_maker.specs.Hospital.{folder, one_to}
 use Rattle.sample_maker.proofs.folders.hospital.Given as goal

@@ -1,4 +1,4 @@
--- The bytes so far, and those of the parts left, are those of all parts.
+-- The bytes so far, followed by those of the parts left, are the bytes of all parts.
 use Rattle.std.proofs.Common.{◌≡◌, ◌++◌, map, drop}
 use Rattle.std.specs.List.{concat}
 use Rattle.sample_maker.proofs.folders.joined.Given as goal

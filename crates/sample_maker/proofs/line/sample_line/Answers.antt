@@ -1,4 +1,4 @@
--- A hospital is a document of few lines, so that its numbers are those counted.
+-- A hospital is a document, and its elements and lines fit u32. So the counts are its numbers.
 use Rattle.sample_maker.proofs.Numbers.{sample_elements_fit, sample_lines_fit, sample_is_document, line_is}
 use Rattle.sample_maker.proofs.line.sample_line.Goals as goal
 

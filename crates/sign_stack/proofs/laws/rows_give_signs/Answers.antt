@@ -1,4 +1,4 @@
--- The laws of RuleLaws.
+-- Proved in RuleLaws.
 use Rattle.sign_stack.proofs.RuleLaws.{sign_is, rule_is}
 use Rattle.sign_stack.proofs.laws.rows_give_signs.Goals as goal
 

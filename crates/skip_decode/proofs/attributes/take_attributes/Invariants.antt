@@ -1,6 +1,6 @@
--- The attributes so far, before those that are left, are all.
+-- The attributes read so far, followed by those read from the rest, are all attributes.
 use Rattle.std.proofs.Common.{◌≡◌, ◌-◌}
-use Rattle.skip_decode.specs.Reading.{take_attributes}
+use Rattle.skip_decode.specs.inside.TreeReading.{take_attributes}
 use Rattle.skip_decode.proofs.Loops.{with_attributes}
 use Rattle.skip_decode.proofs.attributes.take_attributes.Given as goal
 

@@ -1,4 +1,4 @@
--- What the reader finds in the stream of a document is that document.
+-- The stream of a document is read as that document.
 use Rattle.std.proofs.Common.{◌≡◌, Err, sym, ◌∙◌, rules}
 use Rattle.std.proofs.lemmas.Option.{same_Some, none-some}
 use Rattle.std.proofs.lemmas.Result.{IfOk-weaker}
@@ -11,20 +11,20 @@ returns-in_default-clause-bad c = λ _ d of. first_there d c.args.plain.now c.ar
 
 pub returns-in_default-take_bytes-clause-bad : goal.returns-in_default-take_bytes-clause-bad
 returns-in_default-take_bytes-clause-bad c = λ _ d of.
-    second_there d c.args.plain.now c.args.header.now c.in-Some.section.now c.in-Some.behind.now of c.in-Some.ensures c.in_default-take_bytes.ensures
+    second_there d c.args.plain.now c.args.header.now c.in-Some.section.now c.in-Some.after.now of c.in-Some.ensures c.in_default-take_bytes.ensures
 
 pub returns-in_err-names-clause-bad : goal.returns-in_err-names-clause-bad
 returns-in_err-names-clause-bad c = λ e d of.
     let same : c.read.result ≡ Err BadIndex = search rules in
-    let there = section_there d c.args.plain.now c.args.header.now c.in-Some.section.now c.in-Some.behind.now of c.in-Some.ensures in
+    let there = section_there d c.args.plain.now c.args.header.now c.in-Some.section.now c.in-Some.after.now of c.in-Some.ensures in
     c.read.ensures.bad same _ there.0 there.1
 
 pub returns-clause-one : goal.returns-clause-one
 returns-clause-one c = IfOk-weaker c.read_tree.result _ _ (λ r read d of.
-    same_Some r d (sym read ∙ document_there d c.args.plain.now c.args.header.now c.in-Some.section.now c.in-Some.behind.now c.in-Some-take_bytes.tree.now c.in-Some-take_bytes.field-0-1.now c.in_ok-names.names
+    same_Some r d (sym read ∙ document_there d c.args.plain.now c.args.header.now c.in-Some.section.now c.in-Some.after.now c.in-Some-take_bytes.tree.now c.in-Some-take_bytes.field-0-1.now c.in_ok-names.names
     of c.in-Some.ensures c.in-Some-take_bytes.ensures c.in_ok-names.ensures.names c.in_ok-names.ensures.bytes)) c.read_tree.ensures.read
 
 pub returns-clause-bad : goal.returns-clause-bad
 returns-clause-bad c = λ e d of.
-    none-some d (sym (c.read_tree.ensures.bad e) ∙ document_there d c.args.plain.now c.args.header.now c.in-Some.section.now c.in-Some.behind.now c.in-Some-take_bytes.tree.now c.in-Some-take_bytes.field-0-1.now c.in_ok-names.names
+    none-some d (sym (c.read_tree.ensures.bad e) ∙ document_there d c.args.plain.now c.args.header.now c.in-Some.section.now c.in-Some.after.now c.in-Some-take_bytes.tree.now c.in-Some-take_bytes.field-0-1.now c.in_ok-names.names
     of c.in-Some.ensures c.in-Some-take_bytes.ensures c.in_ok-names.ensures.names c.in_ok-names.ensures.bytes)

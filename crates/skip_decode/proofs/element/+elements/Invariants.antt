@@ -1,6 +1,7 @@
--- The items so far, before those that are left, are all. Each call reads a smaller part of a level, or one level less.
+-- The items read so far, followed by those read from the rest, are all items. Each call has a smaller measure: the
+-- allowed depth falls, or a later function in the cycle is called.
 use Rattle.std.proofs.Common.{◌≡◌, ◌-◌, ◌+◌, ◌*◌, length}
-use Rattle.skip_decode.specs.Reading.{take_item, take_items, read_element}
+use Rattle.skip_decode.specs.inside.TreeReading.{take_item, take_items, read_element}
 use Rattle.skip_decode.proofs.Loops.{with_items}
 use Rattle.skip_decode.proofs.element.+elements.Given as goal
 

@@ -1,4 +1,4 @@
--- The search goes on where a width isn't enough.
+-- The search continues where a width isn't enough.
 use Rattle.std.proofs.Common.{◌≡◌, ◌*◌, ◌^◌, ◌%◌, sym, ◌∙◌, arith}
 use Rattle.std.proofs.lemmas.Nat.{one_shl}
 use Rattle.skip_decode.proofs.Searches.{search-start, search-here, search-on, search-end}

@@ -1,4 +1,4 @@
--- No lower width was enough, so the search from this one on finds what the whole search finds.
+-- No smaller width is enough, so the search from this width finds what the whole search finds.
 use Rattle.std.proofs.Common.{◌≡◌, ◌-◌, ◌^◌, nat_lt}
 use Rattle.acl_model.specs.Width.{first_from, binary_length}
 use Rattle.skip_decode.proofs.head.binary_length.Given as goal

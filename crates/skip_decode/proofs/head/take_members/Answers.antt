@@ -1,4 +1,4 @@
--- Each member has its bit.
+-- Each member has one bit.
 use Rattle.std.proofs.Common.{refl, sym, ◌∙◌}
 use Rattle.skip_decode.proofs.Searches.{members-short, members-one, members-other, members-end, with_number-is}
 use Rattle.skip_decode.proofs.head.take_members.Goals as goal

@@ -1,4 +1,4 @@
--- The laws of proofs/Documents.antt.
+-- Both theorems follow from `one_document` of proofs/Documents.antt.
 use Rattle.std.proofs.Common.{sym, ◌∙◌}
 use Rattle.skip_decode.proofs.Documents.{one_document}
 use Rattle.skip_decode.proofs.laws.a_stream_is_of_one_document.Goals as goal

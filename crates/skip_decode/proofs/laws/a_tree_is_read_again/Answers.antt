@@ -1,4 +1,4 @@
--- The law of proofs/Documents.antt.
+-- The theorem is `tree_read` of proofs/Documents.antt.
 use Rattle.skip_decode.proofs.Documents.{tree_read}
 use Rattle.skip_decode.proofs.laws.a_tree_is_read_again.Goals as goal
 

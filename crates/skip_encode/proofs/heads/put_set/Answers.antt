@@ -4,13 +4,13 @@ use Rattle.skip_encode.proofs.BitWords.{one_bit}
 use Rattle.skip_encode.proofs.Members.{length-whole, set_bits-put, set_bits-some, set_bits-none}
 use Rattle.skip_encode.proofs.heads.put_set.Goals as goal
 
--- the empty set is the bit 0
+-- The bits of the empty set are 0.
 pub returns-then-count-eq0-clause-bits : goal.returns-then-count-eq0-clause-bits
 returns-then-count-eq0-clause-bits c =
     let none : length c.args.below.now ≡ 0 = sym c.count.ensures.number ∙ c.if-count-eq0.true in
     c.put.ensures.bits ∙ ap (λ l. c.args.bits.now ++ l) (one_bit false ∙ sym (set_bits-none c.args.members.now c.args.below.now none))
 
--- all members are left
+-- At the start all members are left.
 pub loop-n-init : goal.loop-n-init
 loop-n-init c = record {
   put = ap (λ l. l ++ map (has_member c.args.below.now) c.args.members.now) (c.put-2.ensures.bits ∙ ap (λ l. c.args.bits.now ++ l) (one_bit true));
@@ -22,7 +22,7 @@ put-requires-in-Some-clause-room c =
     let long : length c.loop-n.left ≡ suc (length c.take_first.new.self) = ap length c.in-Some.ensures.first in
     omega (arith, c.loop-n.invariant.few, c.requires.room, length-whole c.args.members.now c.requires.row, long)
 
--- the next has its bit
+-- The bit of the next member is appended.
 pub loop-n-preserved : goal.loop-n-preserved
 loop-n-preserved c =
     let long : length c.loop-n.left ≡ suc (length c.take_first.new.self) = ap length c.in-Some.ensures.first in record {
@@ -31,7 +31,7 @@ loop-n-preserved c =
       few = omega (arith, c.loop-n.invariant.few, c.put-in-Some.ensures.length, long);
     }
 
--- none is left
+-- At the end no member is left.
 pub returns-clause-bits : goal.returns-clause-bits
 returns-clause-bits c =
     let some : 1 ≤ length c.args.below.now = omega (arith, c.count.ensures.number) in

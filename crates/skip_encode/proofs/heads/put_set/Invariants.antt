@@ -2,7 +2,7 @@ use Rattle.std.proofs.Common.{◌≡◌, ◌+◌, ◌++◌, true, [], ◌∷◌,
 use Rattle.acl_model.specs.Stream.{has_member}
 use Rattle.skip_encode.proofs.heads.put_set.Given as goal
 
--- with the bits of the members that are left, all are put
+-- the bits so far, followed by those of the members left, are all bits of the set
 abbrev pub invariant-loop-n : goal.invariant-loop-n
 invariant-loop-n l = record {
   put : l.bits ++ map (has_member l.below) l.left ≡ (l.fn.bits ++ (true ∷ [])) ++ map (has_member l.below) l.members;

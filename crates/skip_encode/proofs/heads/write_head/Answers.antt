@@ -1,26 +1,26 @@
 use Rattle.std.proofs.Common.{◌-◌, ◌++◌, length, ap, ◌∙◌, arith}
-use Rattle.acl_bits.specs.Bits.{bits_of}
+use Rattle.acl_bits.specs.FilledBits.{bits_of}
 use Rattle.acl_model.specs.Width.{binary_length}
 use Rattle.skip_encode.proofs.Widths.{binary_length-few}
 use Rattle.skip_encode.proofs.Members.{length-whole}
 use Rattle.skip_encode.proofs.HeadBits.{head_bits-put, head_bytes-put}
 use Rattle.skip_encode.proofs.heads.write_head.Goals as goal
 
--- the number of one of at most 256 members takes at most 8 bits
+-- An index among at most 256 members takes at most 8 bits.
 pub put_set-requires-clause-room : goal.put_set-requires-clause-room
 put_set-requires-clause-room c =
     let few = length-whole c.args.parent.now.members c.count.ensures.whole in
     let digits = binary_length-few c.saturating_sub.result 8 (omega arith) (omega (arith, c.count.ensures.number, c.from-members.ensures, c.saturating_sub.ensures)) in
     omega (arith, ap length c.new-bits.ensures, c.put.ensures.length, c.put-2.ensures.length, c.binary_length.ensures.digits)
 
--- and the set at most 257
+-- The set takes at most 257 bits.
 pub put-requires-3-clause-room : goal.put-requires-3-clause-room
 put-requires-3-clause-room c =
     let few = length-whole c.args.parent.now.members c.count.ensures.whole in
     let digits = binary_length-few c.saturating_sub.result 8 (omega arith) (omega (arith, c.count.ensures.number, c.from-members.ensures, c.saturating_sub.ensures)) in
     omega (arith, ap length c.new-bits.ensures, c.put.ensures.length, c.put-2.ensures.length, c.binary_length.ensures.digits, c.put_set.ensures.length)
 
--- the head is whole
+-- The bytes written are those of the head.
 pub returns : goal.returns
 returns c =
     head_bytes-put c.args.bytes.now.items c.extend_from_slice.new.self.items c.bytes.result.now c.put-3.new.self _

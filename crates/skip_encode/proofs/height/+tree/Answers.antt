@@ -10,7 +10,7 @@ use Rattle.skip_encode.proofs.height.+tree.Goals as goal
 pub height-loop-item-init : goal.height-loop-item-init
 height-loop-item-init t c = omega arith
 
--- an item is lower than its element
+-- An item is lower than the element that contains it.
 pub height-height_of_item-requires : goal.height-height_of_item-requires
 height-height_of_item-requires t c =
     let within = rw c.as_slice-item-items.ensures at c.loop-item-test.true in
@@ -28,7 +28,7 @@ height-loop-item-preserved t c =
     ap (λ n. max n (greatest (map height_of_item (drop (c.loop-item.item-index + 1) items)))) high
     ∙ greatest-next items c.loop-item.item-index c.loop-item.greatest (greatest (map height_of_item items)) c.item-item.result within is c.loop-item.invariant
 
--- all items are passed
+-- All items were passed.
 pub height-overflow_add-result : goal.height-overflow_add-result
 height-overflow_add-result t c =
     let past = rw c.as_slice-item-items.ensures at c.loop-item-test.false in
@@ -43,7 +43,7 @@ height-returns t c =
     let all = greatest-is items c.loop-item.item-index c.loop-item.greatest (greatest (map height_of_item items)) past c.loop-item.invariant in
     ap (λ n. n + 1) all ∙ sym (height_is c.args.element.now)
 
--- a child element is no higher than its item
+-- A child element is no higher than its item.
 pub height_of_item-height-requires : goal.height_of_item-height-requires
 height_of_item-height-requires t c =
     let is : c.args.item.now ≡ Child c.get.result.now = c.in-Child.is ∙ ap Child (sym c.get.ensures) in

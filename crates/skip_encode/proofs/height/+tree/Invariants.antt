@@ -6,7 +6,7 @@ use Rattle.skip_encode.proofs.height.+tree.Given as goal
 abbrev pub invariant-height-loop-item : goal.invariant-height-loop-item
 invariant-height-loop-item l = max l.greatest (greatest (map height_of_item (drop l.item-index l.element.items))) ≡ greatest (map height_of_item l.element.items)
 
--- an item is lower than the element that it stands in, and a child element as high as its item
+-- An item is lower than the element that contains it, and a child element is as high as its item.
 abbrev pub decreases-height : goal.decreases-height
 decreases-height l = 2 * height l.element.now
 

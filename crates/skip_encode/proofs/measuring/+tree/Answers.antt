@@ -8,37 +8,37 @@ use Rattle.acl_model.specs.Stream.{branch_of, part_of}
 use Rattle.acl_model.specs.declared.document.Item.TheVariants.{Child}
 use Rattle.acl_model.proofs.FormEquations.{height_of_item-Child}
 use Rattle.skip_encode.specs.declared.measure_fault.MeasureFault.TheVariants as fault
-use Rattle.skip_encode.specs.Measures.{part_measures, measure_of}
+use Rattle.skip_encode.specs.inside.Measures.{part_measures, measure_of}
 use Rattle.skip_encode.specs.declared.measures.Measure.{Measure}
 use Rattle.skip_encode.specs.declared.tally.Tally.{Tally}
 use Rattle.skip_encode.proofs.Tallying.{new-small}
-use Rattle.skip_encode.specs.Tallies.{laid_length, front_size, tally_of, with_part, with_text, with_element}
-use Rattle.skip_encode.proofs.Contents.{none-left, all-tally, all-measures, measure-is, same-first, child-part, text-part, branch_of-tag, branch_of-size, before_last-front, before_last-drop, length-before_last, last-lower, last-measures, last-tally, last-plain, branch_of-front, tag_of-small}
+use Rattle.skip_encode.specs.inside.Tallies.{laid_length, prefix_size, tally_of, with_part, with_text, with_element}
+use Rattle.skip_encode.proofs.Contents.{none-left, all-tally, all-measures, measure-is, same-first, child-part, text-part, branch_of-tag, branch_of-size, before_last-prefix, before_last-drop, length-before_last, last-lower, last-measures, last-tally, last-plain, branch_of-prefix, tag_of-small}
 use Rattle.skip_encode.proofs.measuring.+tree.Goals as goal
 
--- what stands before the items alone is too large
-pub measure_element-returns-in_err-front_size-clause-large : goal.measure_element-returns-in_err-front_size-clause-large
-measure_element-returns-in_err-front_size-clause-large t c = λ e.
-    let same : c.front_size.result ≡ Err fault.TooLarge = search rules in
-    let part = branch_of-front c.args.names.now c.args.element.now in
-    omega (arith, c.front_size.ensures.large same, ap front_size c.as_slice.ensures, part)
+-- The bytes before the items alone are too large.
+pub measure_element-returns-in_err-prefix_size-clause-large : goal.measure_element-returns-in_err-prefix_size-clause-large
+measure_element-returns-in_err-prefix_size-clause-large t c = λ e.
+    let same : c.prefix_size.result ≡ Err fault.TooLarge = search rules in
+    let part = branch_of-prefix c.args.names.now c.args.element.now in
+    omega (arith, c.prefix_size.ensures.large same, ap prefix_size c.as_slice.ensures, part)
 
--- all items are left
+-- At the start all items are left.
 pub measure_element-loop-items-init : goal.measure_element-loop-items-init
 measure_element-loop-items-init t c =
     let all = c.args.element.now.items in
     let items = c.as_slice-items.result.now in
     let none = none-left all items c.as_slice-items.ensures in
-    let plain : c.in_ok-front_size.field-0 ≡ front_size c.args.element.now.attributes = c.in_ok-front_size.ensures.size ∙ ap front_size c.as_slice.ensures in
+    let plain : c.in_ok-prefix_size.field-0 ≡ prefix_size c.args.element.now.attributes = c.in_ok-prefix_size.ensures.size ∙ ap prefix_size c.as_slice.ensures in
     record {
-      front = c.as_slice-items.ensures ∙ sym (take_all (length items) all (omega (arith, ap length c.as_slice-items.ensures)));
+      prefix = c.as_slice-items.ensures ∙ sym (take_all (length items) all (omega (arith, ap length c.as_slice-items.ensures)));
       within = omega (arith, ap length c.as_slice-items.ensures);
       measured = ap (λ l. flat_map part_measures (map (part_of c.args.names.now) l) ++ c.args.measures.now) (sym none);
-      counted = c.new-tally.ensures ∙ ap (λ n. tally_of n []) plain ∙ ap (λ l. tally_of (front_size c.args.element.now.attributes) (map (part_of c.args.names.now) l)) (sym none);
-      small = new-small c.new-tally.result c.in_ok-front_size.field-0 c.new-tally.ensures c.in_ok-front_size.ensures.small;
+      counted = c.new-tally.ensures ∙ ap (λ n. tally_of n []) plain ∙ ap (λ l. tally_of (prefix_size c.args.element.now.attributes) (map (part_of c.args.names.now) l)) (sym none);
+      small = new-small c.new-tally.result c.in_ok-prefix_size.field-0 c.new-tally.ensures c.in_ok-prefix_size.ensures.small;
     }
 
--- an item's place is within the slice
+-- The item's index is within the slice.
 pub measure_element-offset_bounds-items-items : goal.measure_element-offset_bounds-items-items
 measure_element-offset_bounds-items-items t c =
     let within = c.loop-items.invariant.within in
@@ -46,34 +46,34 @@ measure_element-offset_bounds-items-items t c =
     let bytes = c.as_slice-items.type_inv.1 in
     omega (arith, within, all, bytes)
 
--- the last item is lower than the element
+-- The last item left is lower than the element.
 pub measure_element-measure_item-requires : goal.measure_element-measure_item-requires
 measure_element-measure_item-requires t c =
-    let lower = last-lower c.args.element.now c.loop-items.items.now c.last-item.result c.loop-items.invariant.front c.loop-items.invariant.within c.in-len1-up.len_at_least c.last-item.is in
+    let lower = last-lower c.args.element.now c.loop-items.items.now c.last-item.result c.loop-items.invariant.prefix c.loop-items.invariant.within c.in-len1-up.len_at_least c.last-item.is in
     (omega (arith, lower), (c.requires, c.loop-items.invariant.small))
 
--- the items from this one on are too large
+-- The items from this one on are too large.
 pub measure_element-returns-in_err-measure_item-clause-large : goal.measure_element-returns-in_err-measure_item-clause-large
 measure_element-returns-in_err-measure_item-clause-large t c = λ e.
     let same : c.measure_item.result ≡ Err fault.TooLarge = search rules in
-    let next = before_last-drop c.args.element.now.items c.loop-items.items.now c.last-item.result c.loop-items.invariant.front c.loop-items.invariant.within c.in-len1-up.len_at_least c.last-item.is in
+    let next = before_last-drop c.args.element.now.items c.loop-items.items.now c.last-item.result c.loop-items.invariant.prefix c.loop-items.invariant.within c.in-len1-up.len_at_least c.last-item.is in
     let part = last-plain c.args.names.now c.args.element.now c.loop-items.items.now c.last-item.result c.loop-items.tally next c.loop-items.invariant.counted in
     omega (arith, c.measure_item.ensures.large same, part)
 
 pub measure_element-loop-items-smaller : goal.measure_element-loop-items-smaller
 measure_element-loop-items-smaller t c = omega (arith, length-before_last c.loop-items.items.now, c.in-len1-up.len_at_least)
 
--- one item fewer is left
+-- After a step, one item fewer is left.
 pub measure_element-loop-items-preserved : goal.measure_element-loop-items-preserved
 measure_element-loop-items-preserved t c =
     let all = c.args.element.now.items in
     let items = c.loop-items.items.now in
-    let next = before_last-drop all items c.last-item.result c.loop-items.invariant.front c.loop-items.invariant.within c.in-len1-up.len_at_least c.last-item.is in
+    let next = before_last-drop all items c.last-item.result c.loop-items.invariant.prefix c.loop-items.invariant.within c.in-len1-up.len_at_least c.last-item.is in
     record {
-      front = before_last-front all items c.loop-items.invariant.front;
+      prefix = before_last-prefix all items c.loop-items.invariant.prefix;
       within = omega (arith, length-before_last items, c.loop-items.invariant.within);
       measured = last-measures c.args.names.now all items c.last-item.result [] c.args.measures.now c.loop-items.measures c.measure_item.new.measures next c.loop-items.invariant.measured c.in_ok-measure_item.ensures.measured;
-      counted = last-tally c.args.names.now (front_size c.args.element.now.attributes) all items c.last-item.result c.loop-items.tally c.measure_item.new.tally next c.loop-items.invariant.counted c.in_ok-measure_item.ensures.counted;
+      counted = last-tally c.args.names.now (prefix_size c.args.element.now.attributes) all items c.last-item.result c.loop-items.tally c.measure_item.new.tally next c.loop-items.invariant.counted c.in_ok-measure_item.ensures.counted;
       small = c.in_ok-measure_item.ensures.small;
     }
 
@@ -105,39 +105,39 @@ measure_element-returns-clause-small t c =
     let all = all-tally names element c.loop-items.items.now c.loop-items.tally c.in_default.len_below c.loop-items.invariant.counted in
     omega (arith, c.in_ok-long.ensures.length, c.in_ok-long.ensures.small, ap (λ (x : Tally). laid_length (length x.members) x) all, branch_of-size names element)
 
--- a child element is no higher than its item
+-- A child element is no higher than its item.
 pub measure_item-measure_element-requires : goal.measure_item-measure_element-requires
 measure_item-measure_element-requires t c =
     let is : c.args.item.now ≡ Child c.get.result.now = c.in-Child.is ∙ ap Child (sym c.get.ensures) in
     let same : height_of_item c.args.item.now ≡ height c.get.result.now = ap height_of_item is ∙ height_of_item-Child c.get.result.now in
     (omega (arith, same), c.requires.few)
 
--- a child that is too large makes its parent so
+-- A child that is too large makes its parent too large.
 pub measure_item-returns-in_err-measure_element-in-Child-clause-large : goal.measure_item-returns-in_err-measure_element-in-Child-clause-large
 measure_item-returns-in_err-measure_element-in-Child-clause-large t c = λ e.
     let same : c.measure_element.result ≡ Err fault.TooLarge = search rules in
     let part = child-part c.args.names.now c.args.item.now c.get.result.now (c.in-Child.is ∙ ap Child (sym c.get.ensures)) in
     omega (arith, c.measure_element.ensures.large same, ap (λ p. (with_part p c.args.tally.now).plain) part)
 
--- a content has two bytes at least
+-- A content has at least two bytes.
 pub measure_item-add_element-requires-clause-counted : goal.measure_item-add_element-requires-clause-counted
 measure_item-add_element-requires-clause-counted t c =
     let own = same-first c.last.result.now (measure_of (branch_of c.args.names.now c.get.result.now)) _ _ c.measure_element.new.measures c.last.ensures c.in_ok-measure_element-in-Child.ensures.measured in
-    omega (arith, ap (λ (m : Measure). m.long) own, branch_of-front c.args.names.now c.get.result.now)
+    omega (arith, ap (λ (m : Measure). m.long) own, branch_of-prefix c.args.names.now c.get.result.now)
 
--- a name's number is below 256
+-- The number of a name is below 256.
 pub measure_item-add_element-requires-clause-tag : goal.measure_item-add_element-requires-clause-tag
 measure_item-add_element-requires-clause-tag t c =
     let own = same-first c.last.result.now (measure_of (branch_of c.args.names.now c.get.result.now)) _ _ c.measure_element.new.measures c.last.ensures c.in_ok-measure_element-in-Child.ensures.measured in
     omega (arith, ap (λ (m : Measure). m.tag) own, branch_of-tag c.args.names.now c.get.result.now, tag_of-small c.args.names.now c.get.result.now.name c.requires.few)
 
--- a text has no measures
+-- A text has no measures.
 pub measure_item-returns-in-Text-clause-measured : goal.measure_item-returns-in-Text-clause-measured
 measure_item-returns-in-Text-clause-measured t c =
     let part = text-part c.args.names.now c.args.item.now c.in-Text.bytes c.in-Text.is in
     on_ok_weaker c.add_text.result (λ _. ap (λ p. part_measures p ++ c.args.measures.now) (sym part)) c.add_text.ensures.added
 
--- and is counted by its length
+-- A text is counted by its length.
 pub measure_item-returns-in-Text-clause-counted : goal.measure_item-returns-in-Text-clause-counted
 measure_item-returns-in-Text-clause-counted t c =
     let part = text-part c.args.names.now c.args.item.now c.in-Text.bytes c.in-Text.is in
@@ -149,13 +149,13 @@ measure_item-returns-in-Text-clause-large t c = λ e.
     let part = text-part c.args.names.now c.args.item.now c.in-Text.bytes c.in-Text.is in
     omega (arith, c.add_text.ensures.large e, ap length c.as_slice.ensures, ap (λ p. (with_part p c.args.tally.now).plain) part)
 
--- an element has its own measures
+-- An element's measures are its own and those inside it.
 pub measure_item-returns-in_ok-measure_element-in-Child-clause-measured : goal.measure_item-returns-in_ok-measure_element-in-Child-clause-measured
 measure_item-returns-in_ok-measure_element-in-Child-clause-measured t c =
     let part = child-part c.args.names.now c.args.item.now c.get.result.now (c.in-Child.is ∙ ap Child (sym c.get.ensures)) in
     on_ok_weaker c.add_element.result (λ _. c.in_ok-measure_element-in-Child.ensures.measured ∙ ap (λ p. part_measures p ++ c.args.measures.now) (sym part)) c.add_element.ensures.added
 
--- and is counted by them
+-- An element is counted by its measure.
 pub measure_item-returns-in_ok-measure_element-in-Child-clause-counted : goal.measure_item-returns-in_ok-measure_element-in-Child-clause-counted
 measure_item-returns-in_ok-measure_element-in-Child-clause-counted t c =
     let part = child-part c.args.names.now c.args.item.now c.get.result.now (c.in-Child.is ∙ ap Child (sym c.get.ensures)) in

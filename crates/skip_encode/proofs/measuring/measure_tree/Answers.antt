@@ -2,31 +2,31 @@ use Rattle.std.proofs.Common.{◌≡◌, ◌≤◌, Err, length, ap, rules, arit
 use Rattle.acl_model.specs.Stream.{branch_of}
 use Rattle.skip_encode.specs.declared.measure_fault.MeasureFault.TheVariants as fault
 use Rattle.skip_encode.specs.declared.measures.Measure.{Measure}
-use Rattle.skip_encode.specs.Measures.{measure_of}
+use Rattle.skip_encode.specs.inside.Measures.{measure_of}
 use Rattle.skip_encode.proofs.Tallying.{laid_length-small}
-use Rattle.skip_encode.proofs.Contents.{branch_of-front, branch_of-tag, tag_of-small, same-first}
+use Rattle.skip_encode.proofs.Contents.{branch_of-prefix, branch_of-tag, tag_of-small, same-first}
 use Rattle.skip_encode.proofs.Trees.{tree-part, root-tally, tree-found}
 use Rattle.skip_encode.proofs.measuring.measure_tree.Goals as goal
 
--- the root's content alone is too large
+-- The root's content alone is too large.
 pub returns-in_err-measure_element-clause-large : goal.returns-in_err-measure_element-clause-large
 returns-in_err-measure_element-clause-large c = λ e.
     let same : c.measure_element.result ≡ Err fault.TooLarge = search rules in
     omega (arith, c.measure_element.ensures.large same, tree-part c.args.names.now c.args.root.now)
 
--- a content has two bytes at least
+-- A content has at least two bytes.
 pub add_element-requires-clause-counted : goal.add_element-requires-clause-counted
 add_element-requires-clause-counted c =
     let own = same-first c.last.result.now (measure_of (branch_of c.args.names.now c.args.root.now)) _ _ c.measure_element.new.measures c.last.ensures c.in_ok-measure_element.ensures.measured in
-    omega (arith, ap (λ (m : Measure). m.long) own, branch_of-front c.args.names.now c.args.root.now)
+    omega (arith, ap (λ (m : Measure). m.long) own, branch_of-prefix c.args.names.now c.args.root.now)
 
--- a name's number is below 256
+-- The number of a name is below 256.
 pub add_element-requires-clause-tag : goal.add_element-requires-clause-tag
 add_element-requires-clause-tag c =
     let own = same-first c.last.result.now (measure_of (branch_of c.args.names.now c.args.root.now)) _ _ c.measure_element.new.measures c.last.ensures c.in_ok-measure_element.ensures.measured in
     omega (arith, ap (λ (m : Measure). m.tag) own, branch_of-tag c.args.names.now c.args.root.now, tag_of-small c.args.names.now c.args.root.now.name c.requires)
 
--- a small tally tells less than 2^31 bytes
+-- The length that follows from a small tally is below 2^31.
 pub overflow_add-section : goal.overflow_add-section
 overflow_add-section c =
     let few : length c.names.result.now ≤ 256 = omega (arith, ap length c.names.ensures, c.requires) in
@@ -42,7 +42,7 @@ returns-then-section-tree-gt-LIMIT-clause-large c = λ _.
     let found = tree-found names root c.add_element.new.self (length c.names.result.now) c.length_within-tree.result c.requires tally (ap length c.names.ensures) c.length_within-tree.ensures in
     omega (arith, found, c.if-section-tree-gt-LIMIT.true)
 
--- the tree's length is found by its root's tally
+-- The tree's length follows from the root's tally.
 pub returns-clause-length : goal.returns-clause-length
 returns-clause-length c =
     let names = c.args.names.now in

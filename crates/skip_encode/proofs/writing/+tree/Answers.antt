@@ -10,22 +10,22 @@ use Rattle.acl_model.specs.declared.document.Item.TheVariants.{Child}
 use Rattle.acl_model.proofs.FormEquations.{item_well_formed-Child, height_of_item-Child}
 use Rattle.tag_dictionary.proofs.Forms.{well_formed-items, well_formed-next, height_of_item-lower}
 use Rattle.skip_encode.specs.declared.measures.Measure.{Measure}
-use Rattle.skip_encode.specs.Measures.{part_measures, BeginsWith, PartFits}
-use Rattle.skip_encode.specs.Tallies.{front_size}
-use Rattle.skip_encode.proofs.Contents.{branch_of-front, child-part, text-part}
+use Rattle.skip_encode.specs.inside.Measures.{part_measures, BeginsWith, PartFits}
+use Rattle.skip_encode.specs.inside.Tallies.{prefix_size}
+use Rattle.skip_encode.proofs.Contents.{branch_of-prefix, child-part, text-part}
 use Rattle.skip_encode.proofs.Written.{written-start, own-measure, left-start, next-begins, next-fits, few-attributes}
 use Rattle.skip_encode.proofs.writing.+tree.Goals as goal
 
--- an element has at most 65,535 attributes
+-- A well-formed element has at most 65,535 attributes.
 pub write_element-write_attributes-requires-clause-few : goal.write_element-write_attributes-requires-clause-few
 write_element-write_attributes-requires-clause-few t c = omega (arith, ap length c.as_slice.ensures, few-attributes c.args.element.now c.requires.formed)
 
--- and they are at most its content
+-- The attributes are no larger than the element's content.
 pub write_element-write_attributes-requires-clause-small : goal.write_element-write_attributes-requires-clause-small
 write_element-write_attributes-requires-clause-small t c =
-    omega (arith, ap front_size c.as_slice.ensures, branch_of-front c.args.names.now c.args.element.now, c.requires.fits.small)
+    omega (arith, ap prefix_size c.as_slice.ensures, branch_of-prefix c.args.names.now c.args.element.now, c.requires.fits.small)
 
--- the items are left
+-- After the attributes, the items are left.
 pub write_element-loop-item-init : goal.write_element-loop-item-init
 write_element-loop-item-init t c =
     let names = c.args.names.now in
@@ -39,7 +39,7 @@ write_element-loop-item-init t c =
       formed = well_formed-items element c.requires.formed;
     }
 
--- the next item can be written
+-- The next item fits, and its measures come next.
 pub write_element-write_item-requires : goal.write_element-write_item-requires
 write_element-write_item-requires t c =
     let names = c.args.names.now in
@@ -65,14 +65,14 @@ write_element-write_item-requires t c =
       ),
     )
 
--- a text's length fits four bytes
+-- A text's length fits four bytes.
 pub write_item-write_measured-requires : goal.write_item-write_measured-requires
 write_item-write_measured-requires t c =
     let part = text-part c.args.names.now c.args.item.now c.in-Text.text c.in-Text.is in
     let fits : length c.in-Text.text < 2 ^ 32 = subst (PartFits c.args.parent.now.members c.args.parent.now.width) part c.requires.fits in
     omega (arith, ap length c.as_slice.ensures, fits)
 
--- a child element can be written as its item can
+-- A child element can be written where its item can.
 pub write_item-write_element-requires : goal.write_item-write_element-requires
 write_item-write_element-requires t c =
     let is : c.args.item.now ≡ Child c.get.result.now = c.in-Child.is ∙ ap Child (sym c.get.ensures) in
@@ -94,7 +94,7 @@ write_item-write_element-requires t c =
       ),
     )
 
--- a text is its length and its bytes
+-- A text is written as its length and its bytes.
 pub write_item-returns-in-Text-clause-written : goal.write_item-returns-in-Text-clause-written
 write_item-returns-in-Text-clause-written t c =
     let part = text-part c.args.names.now c.args.item.now c.in-Text.text c.in-Text.is in
@@ -104,13 +104,13 @@ write_item-returns-in-Text-clause-written t c =
     ∙ ap (λ p. c.args.bytes.now.items ++ bytes_of_segments (part_segments c.args.parent.now.members c.args.parent.now.width p)) (sym part))
     c.write_measured.ensures
 
--- and has no measures
+-- A text has no measures.
 pub write_item-returns-in-Text-clause-left : goal.write_item-returns-in-Text-clause-left
 write_item-returns-in-Text-clause-left t c =
     let part = text-part c.args.names.now c.args.item.now c.in-Text.text c.in-Text.is in
     on_ok_weaker c.write_measured.result (λ _. ap (λ p. drop (length (part_measures p)) c.args.measures.now) (sym part)) c.write_measured.ensures
 
--- a child element is written as such
+-- A child item is written as its element.
 pub write_item-returns-in-Child-clause-written : goal.write_item-returns-in-Child-clause-written
 write_item-returns-in-Child-clause-written t c =
     let part = child-part c.args.names.now c.args.item.now c.get.result.now (c.in-Child.is ∙ ap Child (sym c.get.ensures)) in

@@ -3,7 +3,7 @@ use Rattle.std.proofs.Common.{◌≡◌, ◌<◌, ◌≤◌, ◌+◌, List, ◌+
 use Rattle.std.specs.List.{slice_get}
 use Rattle.token_stack.specs.declared.entry.Entry.{Entry}
 use Rattle.token_stack.specs.Entries.{entries_below, next_state}
-use Rattle.token_stack.proofs.MoveSteps.{turn_done, turn_room, front_kept}
+use Rattle.token_stack.proofs.MoveSteps.{turn_done, turn_room, prefix_kept}
 use Rattle.token_stack.proofs.moves.push_moved.Goals as goal
 
 pub put-requires-in-loop-i : goal.put-requires-in-loop-i
@@ -31,13 +31,13 @@ loop-i-preserved c =
     let second : length c.put-in-loop-i.new.entries.items ≡ length c.put.new.entries.items + length (option_to_list c.own.result) =
     ap length c.put-in-loop-i.ensures.entries ∙ length-append c.put.new.entries.items (option_to_list c.own.result) in
     let kept : take (length old) c.put.new.entries.items ≡ old =
-    ap (take (length old)) c.put.ensures.entries ∙ front_kept old items (option_to_list c.passed.result) c.loop-i.invariant.longer c.loop-i.invariant.kept in
+    ap (take (length old)) c.put.ensures.entries ∙ prefix_kept old items (option_to_list c.passed.result) c.loop-i.invariant.longer c.loop-i.invariant.kept in
     record {
       longer = omega (arith, c.loop-i.invariant.longer);
       kept = ap (take (length old)) c.put-in-loop-i.ensures.entries
-          ∙ front_kept old c.put.new.entries.items (option_to_list c.own.result) (omega (arith, c.loop-i.invariant.longer)) kept;
-      way = turn_done c.args.states.now c.args.tag c.loop-i.next c.behind-next.result old items c.put.new.entries.items c.put-in-loop-i.new.entries.items _ c.loop-i.i
+          ∙ prefix_kept old c.put.new.entries.items (option_to_list c.own.result) (omega (arith, c.loop-i.invariant.longer)) kept;
+      way = turn_done c.args.states.now c.args.tag c.loop-i.next c.after-next.result old items c.put.new.entries.items c.put-in-loop-i.new.entries.items _ c.loop-i.i
           c.index-entry.result.now c.passed.result c.own.result c.loop-i.invariant.kept inside c.index-entry.ensures c.passed.ensures c.put.ensures.entries
-          c.own.ensures c.put-in-loop-i.ensures.entries c.behind-next.ensures c.loop-i.invariant.way;
+          c.own.ensures c.put-in-loop-i.ensures.entries c.after-next.ensures c.loop-i.invariant.way;
       capacity = c.put-in-loop-i.ensures.capacity ∙ c.put.ensures.capacity ∙ c.loop-i.invariant.capacity;
     }

@@ -1,5 +1,5 @@
 -- The laws of SignLaws, and of sign_stack.
-use Rattle.acl_model.specs.Rules.{numbers_of_sign}
+use Rattle.acl_model.specs.RuleNumbers.{numbers_of_sign}
 use Rattle.acl_model.specs.declared.rule.Sign.TheVariants.{Grant, Deny}
 use Rattle.sign_stack.proofs.OutcomeLaws.{none_is_unsettled}
 use Rattle.token_stack.specs.SignRows.{level_rows}

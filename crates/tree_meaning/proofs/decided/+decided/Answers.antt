@@ -2,8 +2,8 @@ use Rattle.std.proofs.Common.{◌∙◌, ◌≡◌, ap, sym, refl, subst, arith}
 use Rattle.acl_model.specs.Document.{height, height_of_item}
 use Rattle.acl_model.proofs.FormEquations.{height_of_item-Child}
 use Rattle.tree_meaning.proofs.Heights.{height_of_item-lower}
-use Rattle.tree_meaning.specs.Known.{StartsWith, preds_of, flags_within, flags_of_item, flags_of_items}
-use Rattle.tree_meaning.specs.Marks.{marked_steps}
+use Rattle.tree_meaning.specs.inside.Known.{StartsWith, preds_of, flags_within, flags_of_item, flags_of_items}
+use Rattle.tree_meaning.specs.inside.StepMarks.{marked_steps}
 use Rattle.tree_meaning.proofs.DecidedLaws.{found_in_element}
 use Rattle.tree_meaning.proofs.KnownLaws.{preds_below, children_start, item_first, items_passed, flags_of_item-Child}
 use Rattle.tree_meaning.proofs.ToldLaws.{same_rules}

@@ -1,11 +1,11 @@
 use Rattle.std.proofs.Common.{◌≡◌, ◌+◌, ◌*◌, ◌++◌, drop, length}
 use Rattle.acl_model.specs.Document.{height, height_of_item}
-use Rattle.tree_meaning.specs.Known.{preds_of, flags_of_items}
-use Rattle.tree_meaning.specs.Marks.{marked_steps}
-use Rattle.tree_meaning.specs.Decided.{entries_of_items}
+use Rattle.tree_meaning.specs.inside.Known.{preds_of, flags_of_items}
+use Rattle.tree_meaning.specs.inside.StepMarks.{marked_steps}
+use Rattle.tree_meaning.specs.inside.Decided.{entries_of_items}
 use Rattle.tree_meaning.proofs.decided.+decided.Given as goal
 
--- an item is lower than the element that it stands in, and a child element as high as its item
+-- an item is lower than its element, and a child element is as high as its item
 abbrev pub decreases-find_in_element : goal.decreases-find_in_element
 decreases-find_in_element l = 3 * height l.element.now + 2
 

@@ -1,6 +1,6 @@
 use Rattle.std.proofs.Common.{◌∙◌, ap, sym, refl, subst}
-use Rattle.tree_meaning.specs.Known.{StartsWith, preds_of, flags_within, flags_of_items}
-use Rattle.tree_meaning.specs.Marks.{marked_steps}
+use Rattle.tree_meaning.specs.inside.Known.{StartsWith, preds_of, flags_within, flags_of_items}
+use Rattle.tree_meaning.specs.inside.StepMarks.{marked_steps}
 use Rattle.tree_meaning.proofs.KnownLaws.{preds_below, children_start, element_first, whole_starts}
 use Rattle.tree_meaning.proofs.ToldLaws.{few_rules, same_rules}
 use Rattle.tree_meaning.proofs.decided.find_all_decided.Goals as goal

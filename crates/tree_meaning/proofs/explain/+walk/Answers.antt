@@ -1,9 +1,9 @@
 use Rattle.std.proofs.Common.{◌∙◌, ◌≡◌, ◌++◌, ap, sym, subst, arith}
 use Rattle.acl_model.specs.Document.{height, height_of_item}
 use Rattle.acl_model.proofs.FormEquations.{height_of_item-Child}
-use Rattle.tree_meaning.specs.Known.{StartsWith, preds_of, flags_within, flags_of_item}
-use Rattle.tree_meaning.specs.Marks.{marked_steps}
-use Rattle.tree_meaning.specs.Told.{explanations_in, told_if_selected}
+use Rattle.tree_meaning.specs.inside.Known.{StartsWith, preds_of, flags_within, flags_of_item}
+use Rattle.tree_meaning.specs.inside.StepMarks.{marked_steps}
+use Rattle.tree_meaning.specs.inside.ExplainWalk.{explanations_in, told_if_selected}
 use Rattle.tree_meaning.proofs.ToldLaws.{told_at_end, same_rules}
 use Rattle.tree_meaning.proofs.KnownLaws.{item_first, items_end, flags_of_item-Child}
 use Rattle.tree_meaning.proofs.Heights.{height_of_item-lower}

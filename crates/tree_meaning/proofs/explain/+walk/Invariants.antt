@@ -1,11 +1,11 @@
 use Rattle.std.proofs.Common.{◌≡◌, ◌≤◌, ◌+◌, ◌*◌, ◌++◌, drop, length}
 use Rattle.acl_model.specs.Document.{height, height_of_item}
-use Rattle.tree_meaning.specs.Known.{preds_of, flags_within, flags_of_items}
-use Rattle.tree_meaning.specs.Marks.{marked_steps}
-use Rattle.tree_meaning.specs.Told.{explanations_in, told_of_items}
+use Rattle.tree_meaning.specs.inside.Known.{preds_of, flags_within, flags_of_items}
+use Rattle.tree_meaning.specs.inside.StepMarks.{marked_steps}
+use Rattle.tree_meaning.specs.inside.ExplainWalk.{explanations_in, told_of_items}
 use Rattle.tree_meaning.proofs.explain.+walk.Given as goal
 
--- an item is lower than the element that it stands in, and a child element as high as its item
+-- an item is lower than its element, and a child element is as high as its item
 abbrev pub decreases-explain_element : goal.decreases-explain_element
 decreases-explain_element l = 2 * height l.element.now
 

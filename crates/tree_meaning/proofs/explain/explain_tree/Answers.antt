@@ -1,7 +1,7 @@
 use Rattle.std.proofs.Common.{◌∙◌, ◌++◌, [], ap}
 use Rattle.std.specs.List.{flat_map}
-use Rattle.tree_meaning.specs.Marks.{marked_steps, begun_rule, row_below}
-use Rattle.tree_meaning.specs.Told.{explanations_in, told_if_unselected, told_from}
+use Rattle.tree_meaning.specs.inside.StepMarks.{marked_steps, begun_rule, row_below}
+use Rattle.tree_meaning.specs.inside.ExplainWalk.{explanations_in, told_if_unselected, told_from}
 use Rattle.tree_meaning.proofs.ToldLaws.{few_rules, explain_is}
 use Rattle.tree_meaning.proofs.explain.explain_tree.Goals as goal
 

@@ -11,6 +11,6 @@ overflow_cast-result c =
 pub loop-progress-preserved : goal.loop-progress-preserved
 loop-progress-preserved c = (
   first_passed c.args.own c.args.row.now c.loop-progress.progress-index c.loop-progress.number _ c.progress-item.result _ c.loop-progress-test.true c.progress-item.is
-      (sym c.does_select_as.ensures ∙ c.if-does_select_as.false) c.number_behind-number.ensures c.loop-progress.invariant.0,
-  rules_passed c.args.row.now c.loop-progress.progress-index c.loop-progress.number _ _ c.progress-item.result c.loop-progress-test.true c.progress-item.is c.number_behind-number.ensures c.loop-progress.invariant.1,
+      (sym c.does_select_as.ensures ∙ c.if-does_select_as.false) c.next_child_number-number.ensures c.loop-progress.invariant.0,
+  rules_passed c.args.row.now c.loop-progress.progress-index c.loop-progress.number _ _ c.progress-item.result c.loop-progress-test.true c.progress-item.is c.next_child_number-number.ensures c.loop-progress.invariant.1,
 )

@@ -1,6 +1,6 @@
 use Rattle.std.proofs.Common.{◌≡◌, ◌+◌, drop}
-use Rattle.tree_meaning.specs.Marks.{marked_steps}
-use Rattle.tree_meaning.specs.Told.{rules_in, first_here}
+use Rattle.tree_meaning.specs.inside.StepMarks.{marked_steps}
+use Rattle.tree_meaning.specs.inside.ExplainWalk.{rules_in, first_here}
 use Rattle.tree_meaning.proofs.explain.first_rule.Given as goal
 
 abbrev pub invariant-loop-progress : goal.invariant-loop-progress

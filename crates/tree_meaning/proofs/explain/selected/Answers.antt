@@ -1,6 +1,6 @@
 use Rattle.std.proofs.Common.{◌∙◌, ◌++◌, [], true, None, ap, sym, map}
-use Rattle.tree_meaning.specs.Marks.{marked_steps, begun_steps}
-use Rattle.tree_meaning.specs.Told.{explanations_in, told_from}
+use Rattle.tree_meaning.specs.inside.StepMarks.{marked_steps, begun_steps}
+use Rattle.tree_meaning.specs.inside.ExplainWalk.{explanations_in, told_from}
 use Rattle.tree_meaning.proofs.ToldLaws.{one_rule, places_told, selected_are}
 use Rattle.acl_model.specs.declared.rule.Sign.TheVariants.{Grant}
 use Rattle.tree_meaning.proofs.explain.selected.Goals as goal

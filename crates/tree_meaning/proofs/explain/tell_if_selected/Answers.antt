@@ -1,7 +1,7 @@
 use Rattle.std.proofs.Common.{◌∙◌, ◌∷◌, [], ◌++◌, ap, sym, append-nil, if◌then◌else◌}
 use Rattle.std.proofs.lemmas.List.{map-append}
-use Rattle.tree_meaning.specs.Marks.{marked_steps}
-use Rattle.tree_meaning.specs.Told.{explanation_in, explanations_in, told_here}
+use Rattle.tree_meaning.specs.inside.StepMarks.{marked_steps}
+use Rattle.tree_meaning.specs.inside.ExplainWalk.{explanation_in, explanations_in, told_here}
 use Rattle.tree_meaning.proofs.explain.tell_if_selected.Goals as goal
 
 pub returns-in_ok-push : goal.returns-in_ok-push

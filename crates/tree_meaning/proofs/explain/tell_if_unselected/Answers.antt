@@ -1,6 +1,6 @@
 use Rattle.std.proofs.Common.{◌∙◌, ap}
-use Rattle.tree_meaning.specs.Marks.{marked_steps}
-use Rattle.tree_meaning.specs.Known.{preds_of, flags_within}
+use Rattle.tree_meaning.specs.inside.StepMarks.{marked_steps}
+use Rattle.tree_meaning.specs.inside.Known.{preds_of, flags_within}
 use Rattle.tree_meaning.proofs.KnownLaws.{element_first, whole_starts}
 use Rattle.tree_meaning.proofs.ToldLaws.{same_rules}
 use Rattle.tree_meaning.proofs.explain.tell_if_unselected.Goals as goal

@@ -1,10 +1,10 @@
 use Rattle.std.proofs.Common.{◌≡◌, ◌∙◌, ◌+◌, ◌++◌, drop, ap, sym, subst, OnOk}
 use Rattle.acl_model.specs.Explain.{explanation_lines}
 use Rattle.acl_model.specs.Places.{element_of}
-use Rattle.acl_outside.specs.Writing.{Writes}
+use Rattle.acl_outside.specs.WrittenText.{Writes}
 use Rattle.acl_outside.proofs.Remaining.{Writes-then, Writes-cut, Writes-last}
-use Rattle.tree_meaning.specs.Told.{number_after}
-use Rattle.tree_meaning.specs.Decided.{place_of, told_by_entry, told_below_child, told_below_items, entries_after_items}
+use Rattle.tree_meaning.specs.inside.ExplainWalk.{number_after}
+use Rattle.tree_meaning.specs.inside.Decided.{place_of, told_by_entry, told_below_child, told_below_items, entries_after_items}
 use Rattle.tree_meaning.proofs.DecidedLaws.{lines_below_is, entries_after_is, lines_of_next, after_next, number_within}
 use Rattle.tree_meaning.proofs.TurnLaws.{Remains-turn, Writes-turn_failed}
 use Rattle.tree_meaning.proofs.explanation_writer.+told.Goals as goal

@@ -1,7 +1,7 @@
 use Rattle.std.proofs.Common.{◌≡◌, ◌≤◌, ◌+◌, drop}
 use Rattle.acl_model.specs.Explain.{explanation_lines}
 use Rattle.acl_outside.proofs.Remaining.{Remains}
-use Rattle.tree_meaning.specs.Decided.{place_of, told_below_items, entries_after_items}
+use Rattle.tree_meaning.specs.inside.Decided.{place_of, told_below_items, entries_after_items}
 use Rattle.tree_meaning.proofs.explanation_writer.+told.Given as goal
 
 abbrev pub invariant-write_items-loop-item : goal.invariant-write_items-loop-item

@@ -1,9 +1,9 @@
 use Rattle.std.proofs.Common.{◌∷◌, ◌∙◌, decimal, map, ap, sym, subst, refl}
 use Rattle.std.specs.List.{concat}
 use Rattle.acl_model.specs.Ascii.{slash}
-use Rattle.acl_outside.specs.Writing.{Writes}
+use Rattle.acl_outside.specs.WrittenText.{Writes}
 use Rattle.acl_outside.proofs.Remaining.{Writes-then, Writes-cut, Writes-last}
-use Rattle.tree_meaning.specs.Decided.{place_of}
+use Rattle.tree_meaning.specs.inside.Decided.{place_of}
 use Rattle.tree_meaning.proofs.DecidedLaws.{numbers_of_child}
 use Rattle.tree_meaning.proofs.explanation_writer.+write_numbers_of.Goals as goal
 

@@ -1,7 +1,7 @@
 use Rattle.std.proofs.Common.{◌∙◌, [], ap}
 use Rattle.acl_model.specs.Explain.{explanation_lines}
 use Rattle.acl_outside.proofs.Remaining.{Writes-last}
-use Rattle.tree_meaning.specs.Decided.{told_below}
+use Rattle.tree_meaning.specs.inside.Decided.{told_below}
 use Rattle.tree_meaning.proofs.DecidedLaws.{lines_are_explained}
 use Rattle.tree_meaning.proofs.TurnLaws.{Writes-good, Writes-bad}
 use Rattle.tree_meaning.proofs.explanation_writer.write_explanation_of.Goals as goal

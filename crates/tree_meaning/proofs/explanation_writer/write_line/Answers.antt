@@ -1,11 +1,11 @@
 use Rattle.std.proofs.Common.{[], ◌∷◌, ◌++◌, ap, sym, subst, ◌∙◌, refl}
 use Rattle.acl_model.specs.Ascii.{line_feed}
 use Rattle.acl_model.specs.Explain.{rule_word, place_text}
-use Rattle.acl_outside.specs.Writing.{Writes}
+use Rattle.acl_outside.specs.WrittenText.{Writes}
 use Rattle.acl_outside.proofs.Remaining.{Writes-then, Writes-cut, Writes-last}
 use Rattle.line_writer.specs.Parts.{explanation_head}
 use Rattle.line_writer.proofs.ExplanationLaws.{explained_line-parts}
-use Rattle.tree_meaning.specs.Decided.{place_of}
+use Rattle.tree_meaning.specs.inside.Decided.{place_of}
 use Rattle.tree_meaning.proofs.explanation_writer.write_line.Goals as goal
 
 pub returns-in_err-write_explanation_head : goal.returns-in_err-write_explanation_head

@@ -1,8 +1,8 @@
 use Rattle.std.proofs.Common.{refl, subst}
 use Rattle.acl_model.specs.Explain.{explanation_line}
-use Rattle.acl_outside.specs.Writing.{Writes}
+use Rattle.acl_outside.specs.WrittenText.{Writes}
 use Rattle.acl_outside.proofs.Remaining.{Writes-cut_part}
-use Rattle.tree_meaning.specs.Told.{explanation_in}
+use Rattle.tree_meaning.specs.inside.ExplainWalk.{explanation_in}
 use Rattle.tree_meaning.proofs.LineLaws.{line_told, Writes-parts}
 use Rattle.tree_meaning.proofs.ToldLaws.{lines_told}
 use Rattle.tree_meaning.proofs.lines.write_explanation.Goals as goal

@@ -2,7 +2,7 @@ use Rattle.std.proofs.Common.{drop, map}
 use Rattle.std.specs.List.{concat}
 use Rattle.acl_model.specs.Explain.{explanation_line}
 use Rattle.acl_outside.proofs.Remaining.{Remains}
-use Rattle.tree_meaning.specs.Told.{explanation_in}
+use Rattle.tree_meaning.specs.inside.ExplainWalk.{explanation_in}
 use Rattle.tree_meaning.proofs.lines.write_explanation.Given as goal
 
 abbrev pub invariant-loop-one : goal.invariant-loop-one

@@ -1,7 +1,7 @@
 use Rattle.std.proofs.Common.{◌≡◌, ◌++◌, drop, length}
 use Rattle.predicate_walk.specs.Truths.{truths_at}
-use Rattle.tree_meaning.specs.Known.{preds_of}
-use Rattle.tree_meaning.specs.Marks.{marked_steps, moved, no_step}
+use Rattle.tree_meaning.specs.inside.Known.{preds_of}
+use Rattle.tree_meaning.specs.inside.StepMarks.{marked_steps, moved, no_step}
 use Rattle.tree_meaning.proofs.marks.all_below.Given as goal
 
 abbrev pub invariant-loop-progress : goal.invariant-loop-progress

@@ -1,6 +1,6 @@
 use Rattle.std.proofs.Common.{◌≡◌, ◌++◌, drop, true, None}
 use Rattle.std.specs.Option.{option_copied}
-use Rattle.tree_meaning.specs.Marks.{marked_steps, begun_steps}
+use Rattle.tree_meaning.specs.inside.StepMarks.{marked_steps, begun_steps}
 use Rattle.tree_meaning.proofs.marks.begin.Given as goal
 
 abbrev pub invariant-loop-next : goal.invariant-loop-next

@@ -1,7 +1,7 @@
 use Rattle.std.proofs.Common.{◌≡◌, ◌++◌, drop}
 use Rattle.predicate_walk.specs.Truths.{preds_in}
-use Rattle.tree_meaning.specs.Known.{preds_of}
-use Rattle.tree_meaning.specs.Marks.{marked_steps}
+use Rattle.tree_meaning.specs.inside.Known.{preds_of}
+use Rattle.tree_meaning.specs.inside.StepMarks.{marked_steps}
 use Rattle.tree_meaning.proofs.preds.all_preds.Given as goal
 
 abbrev pub invariant-loop-progress : goal.invariant-loop-progress

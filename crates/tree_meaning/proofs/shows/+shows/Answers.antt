@@ -1,12 +1,12 @@
 use Rattle.std.proofs.Common.{rules, ◌≡◌, ◌∙◌, ◌++◌, ap, sym, refl, subst, arith, length, drop}
 use Rattle.acl_model.specs.Document.{height, height_of_item}
 use Rattle.acl_model.proofs.FormEquations.{height_of_item-Child}
-use Rattle.tree_meaning.specs.Known.{StartsWith, preds_of, flags_within, flags_of_item}
+use Rattle.tree_meaning.specs.inside.Known.{StartsWith, preds_of, flags_within, flags_of_item}
 use Rattle.tree_meaning.proofs.Heights.{height_of_item-lower}
 use Rattle.tree_meaning.proofs.KnownLaws.{item_first, item_passed, items_next, items_end, flags_of_item-Child}
 use Rattle.std.specs.List.{list_any}
-use Rattle.tree_meaning.specs.Marks.{marked_steps, sign_here}
-use Rattle.tree_meaning.specs.Shows.{is_shown, shows_of_item}
+use Rattle.tree_meaning.specs.inside.StepMarks.{marked_steps, sign_here}
+use Rattle.tree_meaning.specs.inside.Shows.{is_shown, shows_of_item}
 use Rattle.tree_meaning.proofs.ShowLaws.{shows_of_items, shows_step, shown_step, told_is, shows_before, place_within, settled, with_show-shown}
 use Rattle.tree_meaning.proofs.shows.+shows.Goals as goal
 

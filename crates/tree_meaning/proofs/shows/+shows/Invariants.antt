@@ -1,13 +1,13 @@
 use Rattle.std.proofs.Common.{◌≡◌, ◌||◌, ◌+◌, ◌*◌, ◌++◌, drop, length}
 use Rattle.std.specs.List.{list_any}
 use Rattle.acl_model.specs.Document.{height, height_of_item}
-use Rattle.tree_meaning.specs.Known.{preds_of, flags_within, flags_of_items}
-use Rattle.tree_meaning.specs.Marks.{marked_steps}
-use Rattle.tree_meaning.specs.Shows.{is_shown}
+use Rattle.tree_meaning.specs.inside.Known.{preds_of, flags_within, flags_of_items}
+use Rattle.tree_meaning.specs.inside.StepMarks.{marked_steps}
+use Rattle.tree_meaning.specs.inside.Shows.{is_shown}
 use Rattle.tree_meaning.proofs.ShowLaws.{shows_of_items}
 use Rattle.tree_meaning.proofs.shows.+shows.Given as goal
 
--- an item is lower than the element that it stands in, and a child element as high as its item
+-- an item is lower than its element, and a child element is as high as its item
 abbrev pub decreases-find_shows : goal.decreases-find_shows
 decreases-find_shows l = 2 * height l.element.now
 

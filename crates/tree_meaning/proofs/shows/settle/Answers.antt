@@ -1,6 +1,6 @@
 use Rattle.std.proofs.Common.{◌∙◌, ◌+◌, ◌++◌, ◌∷◌, ap, sym, take, drop, add-one}
 use Rattle.std.proofs.lemmas.List.{set_split}
-use Rattle.tree_meaning.specs.Shows.{with_show}
+use Rattle.tree_meaning.specs.inside.Shows.{with_show}
 use Rattle.tree_meaning.proofs.shows.settle.Goals as goal
 
 pub returns-in-Whole : goal.returns-in-Whole

@@ -1,6 +1,6 @@
 use Rattle.std.proofs.Common.{◌≡◌, drop, length}
 use Rattle.predicate_walk.specs.Truths.{preds_in}
-use Rattle.tree_meaning.specs.Known.{flags_within, flags_of_items}
+use Rattle.tree_meaning.specs.inside.Known.{flags_within, flags_of_items}
 use Rattle.tree_meaning.proofs.sign.+past.Given as goal
 
 abbrev pub invariant-pass_element-loop-item : goal.invariant-pass_element-loop-item

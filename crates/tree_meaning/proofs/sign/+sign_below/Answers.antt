@@ -1,8 +1,8 @@
 use Rattle.std.proofs.Common.{◌∙◌, ap, sym, subst, arith}
 use Rattle.std.proofs.lemmas.List.{length-drop}
 use Rattle.predicate_walk.specs.Truths.{preds_in}
-use Rattle.tree_meaning.specs.Known.{StartsWith, preds_of, flags_within}
-use Rattle.tree_meaning.specs.Marks.{marked_steps}
+use Rattle.tree_meaning.specs.inside.Known.{StartsWith, preds_of, flags_within}
+use Rattle.tree_meaning.specs.inside.StepMarks.{marked_steps}
 use Rattle.tree_meaning.proofs.KnownLaws.{element_first, children_start, preds_below}
 use Rattle.tree_meaning.proofs.sign.+sign_below.Goals as goal
 

@@ -1,7 +1,7 @@
 use Rattle.std.proofs.Common.{◌≡◌, ◌++◌, drop, length}
 use Rattle.acl_model.specs.Places.{child}
 use Rattle.predicate_walk.specs.Truths.{preds_in}
-use Rattle.tree_meaning.specs.Known.{flags_of_items}
+use Rattle.tree_meaning.specs.inside.Known.{flags_of_items}
 use Rattle.tree_meaning.proofs.sign.child_at.Given as goal
 
 abbrev pub invariant-loop-item : goal.invariant-loop-item

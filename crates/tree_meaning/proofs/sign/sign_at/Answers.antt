@@ -2,7 +2,7 @@
 use Rattle.std.proofs.Common.{◌∙◌, ap}
 use Rattle.std.specs.List.{flat_map}
 use Rattle.acl_model.specs.declared.rule.Sign.TheVariants.{Deny}
-use Rattle.tree_meaning.specs.Marks.{marked_steps, begun_rule, sign_from}
+use Rattle.tree_meaning.specs.inside.StepMarks.{marked_steps, begun_rule, sign_from}
 use Rattle.tree_meaning.proofs.SignLaws.{sign_found}
 use Rattle.tree_meaning.proofs.sign.sign_at.Goals as goal
 

@@ -2,8 +2,8 @@
 use Rattle.std.proofs.Common.{◌≡◌, IfOk, ap, sym, ◌∙◌, subst, arith}
 use Rattle.acl_model.specs.Document.{height, height_of_item}
 use Rattle.acl_model.proofs.FormEquations.{height_of_item-Child}
-use Rattle.tree_meaning.specs.Known.{StartsWith, preds_of, flags_within, flags_of_item}
-use Rattle.tree_meaning.specs.Marks.{marked_steps, sign_here, items_view, item_view}
+use Rattle.tree_meaning.specs.inside.Known.{StartsWith, preds_of, flags_within, flags_of_item}
+use Rattle.tree_meaning.specs.inside.StepMarks.{marked_steps, sign_here, items_view, item_view}
 use Rattle.tree_meaning.proofs.Heights.{height_of_item-lower}
 use Rattle.tree_meaning.proofs.KnownLaws.{item_first, items_end, flags_of_item-Child}
 use Rattle.tree_meaning.proofs.Lists.{flat_map-end}

@@ -1,6 +1,6 @@
 -- The walk from the root makes the view.
 use Rattle.std.proofs.Common.{◌∙◌, ap}
-use Rattle.tree_meaning.specs.Marks.{marked_steps}
+use Rattle.tree_meaning.specs.inside.StepMarks.{marked_steps}
 use Rattle.tree_meaning.proofs.MarkLaws.{root_view}
 use Rattle.tree_meaning.proofs.view.view_tree.Goals as goal
 

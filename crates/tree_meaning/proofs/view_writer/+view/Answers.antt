@@ -2,12 +2,12 @@ use Rattle.std.proofs.Common.{◌≡◌, ◌∙◌, ◌+◌, ◌++◌, Some, tru
 use Rattle.acl_model.specs.Ascii.{hyphen}
 use Rattle.acl_model.specs.Text.{line}
 use Rattle.acl_outside.proofs.Remaining.{chain, Writes-last}
-use Rattle.tree_meaning.specs.Shows.{Written, in_turn, around, written_of, written_of_item}
+use Rattle.tree_meaning.specs.inside.Shows.{Written, in_turn, around, written_of, written_of_item}
 use Rattle.tree_meaning.proofs.ShowLaws.{whole_next, dummy_next, absent_next, none_next, turn_next, written_of_item-Text, written_of_item-Child}
 use Rattle.tree_meaning.proofs.TurnLaws.{OnOk-always, Remains-turn, Writes-turn_failed, Writes-nothing}
 use Rattle.tree_meaning.proofs.view_writer.+view.Goals as goal
 
--- ---- by the front of the list
+-- ---- by the first entry of the list
 
 pub write_element-returns-in-Some-Whole-clause-written : goal.write_element-returns-in-Some-Whole-clause-written
 write_element-returns-in-Some-Whole-clause-written g t c =

@@ -1,6 +1,6 @@
 use Rattle.std.proofs.Common.{◌≡◌, drop, map}
 use Rattle.acl_outside.proofs.Remaining.{Remains}
-use Rattle.tree_meaning.specs.Shows.{in_turn, written_of_item}
+use Rattle.tree_meaning.specs.inside.Shows.{in_turn, written_of_item}
 use Rattle.tree_meaning.proofs.view_writer.+view.Given as goal
 
 abbrev pub invariant-write_items-loop-item : goal.invariant-write_items-loop-item

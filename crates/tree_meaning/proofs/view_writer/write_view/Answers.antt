@@ -1,6 +1,6 @@
 use Rattle.std.proofs.Common.{◌∙◌, ap}
 use Rattle.acl_outside.proofs.Remaining.{Writes-last}
-use Rattle.tree_meaning.specs.Shows.{written_of}
+use Rattle.tree_meaning.specs.inside.Shows.{written_of}
 use Rattle.tree_meaning.proofs.ShowLaws.{all_written}
 use Rattle.tree_meaning.proofs.TurnLaws.{Writes-good, Writes-bad}
 use Rattle.tree_meaning.proofs.view_writer.write_view.Goals as goal

@@ -1,6 +1,6 @@
 use Rattle.std.proofs.Common.{◌≡◌, ◌≤◌, ◌+◌, ℕ, length, arith, drop, get_or, suc, ◌∷◌, refl, sym, ap, ◌∙◌, add-one}
 use Rattle.std.proofs.Math.Seq.{drop-cons}
-use Rattle.xpath_rules.specs.Machine.{path_or_place}
+use Rattle.xpath_rules.specs.PathMachine.{path_or_place}
 use Rattle.xpath_rules.proofs.Places.{too_many, refused_byte, taken_run, taken_lives, at_end}
 use Rattle.xpath_rules.proofs.reading.path_of.Goals as goal
 

@@ -1,6 +1,6 @@
 use Rattle.std.proofs.Common.{◌≡◌, ◌+◌, ◌≤◌, drop}
 use Rattle.xpath_rules.specs.declared.state.State.{State}
-use Rattle.xpath_rules.specs.Machine.{run, live}
+use Rattle.xpath_rules.specs.PathMachine.{run, live}
 use Rattle.xpath_rules.proofs.reading.path_of.Given as goal
 
 -- The rest of the bytes runs on from here as all of them run from the start.

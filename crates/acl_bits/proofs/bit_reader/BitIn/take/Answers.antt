@@ -1,7 +1,7 @@
--- The number is cut out of the window, and the bits behind it are left.
+-- The number is some bits of the window, and the bits after them are left.
 use Rattle.std.proofs.Common.{ℕ, List, Bool, ap, ◌∙◌, arith, sym, length, take, drop, refl, ◌+◌, ◌%◌, ◌/◌}
 use Rattle.std.proofs.lemmas.Bool.{false≢true}
-use Rattle.acl_bits.specs.Bits.{number_of, bits_of_bytes}
+use Rattle.acl_bits.specs.FilledBits.{number_of, bits_of_bytes}
 use Rattle.acl_bits.proofs.Windows.{number-taken, bits-cut, length-left, take-all_left}
 use Rattle.acl_bits.proofs.bit_reader.BitIn.take.Goals as goal
 

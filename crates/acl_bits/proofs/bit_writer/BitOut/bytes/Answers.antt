@@ -1,6 +1,6 @@
--- Behind the string the bytes are zero, so its bytes are the first of them.
+-- All bits after the string are zero, so its bytes are the first of the forty.
 use Rattle.std.proofs.Common.{ap, ◌∙◌, sym, List, Bool, take}
-use Rattle.acl_bits.specs.Bits.{bytes_of}
+use Rattle.acl_bits.specs.FilledBits.{bytes_of}
 use Rattle.acl_bits.proofs.BitStrings.{bytes_of-held}
 use Rattle.acl_bits.proofs.Windows.{div_ceil-eighths}
 use Rattle.acl_bits.proofs.bit_writer.BitOut.bytes.Goals as goal

@@ -1,7 +1,7 @@
--- The value is laid over the zeros behind the string.
+-- The value is written over the zeros after the string.
 use Rattle.std.proofs.Common.{List, Bool, ap, ◌∙◌, ◌++◌, arith, sym, length, length-append}
 use Rattle.acl_bits.proofs.BitStrings.{length-bits_of}
-use Rattle.acl_bits.specs.Bits.{bits_of}
+use Rattle.acl_bits.specs.FilledBits.{bits_of}
 use Rattle.acl_bits.proofs.Windows.{HoldBits-put, bits-put, LaysOver-window, length-held}
 use Rattle.acl_bits.proofs.bit_writer.BitOut.put.Goals as goal
 

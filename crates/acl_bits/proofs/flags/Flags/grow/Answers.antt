@@ -1,10 +1,10 @@
--- Words of zeros are added.
+-- Words that are zero are appended.
 use Rattle.std.proofs.Common.{◌≡◌, ℕ, ◌+◌, ◌^◌, ◌<◌, Option, Some, None, arith}
 use Rattle.std.specs.Option.{SomeIff}
 use Rattle.acl_bits.proofs.FlagLists.{HoldFlags-grown, flags_of-grown}
 use Rattle.acl_bits.proofs.flags.Flags.grow.Goals as goal
 
--- the number that a sum with a check gives
+-- the result of a checked addition
 given_sum : (o : Option ℕ) (P : Type 0) (v x : ℕ) → SomeIff o P v → o ≡ Some x → x ≡ v
 given_sum None P v x h e = cc
 given_sum (Some y) P v x h e = let same : y ≡ v = h.1 in cc

@@ -1,4 +1,4 @@
--- The bit at the flag's place.
+-- The flag is its bit in the words.
 use Rattle.acl_bits.proofs.FlagLists.{has_flag, has_no_flag}
 use Rattle.acl_bits.proofs.flags.Flags.has.Goals as goal
 

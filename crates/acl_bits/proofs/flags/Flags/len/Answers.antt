@@ -1,4 +1,4 @@
--- The list has as many flags as were counted.
+-- The length of the list is the stored length.
 use Rattle.std.proofs.Common.{sym}
 use Rattle.acl_bits.proofs.FlagLists.{length-flags}
 use Rattle.acl_bits.proofs.flags.Flags.len.Goals as goal

@@ -1,4 +1,4 @@
--- No words hold no flags.
+-- The empty list of words holds the empty list of flags.
 use Rattle.acl_bits.proofs.FlagLists.{HoldFlags-none}
 use Rattle.acl_bits.proofs.flags.Flags.new.Goals as goal
 

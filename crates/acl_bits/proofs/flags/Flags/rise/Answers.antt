@@ -1,4 +1,4 @@
--- The four lists have one length, so each has as many words, and the new words hold what is risen.
+-- The four lists have one length, so they have the same number of words, and the new words hold `risen`.
 use Rattle.std.proofs.Common.{List, ℕ, ap, sym, ◌∙◌, subst}
 use Rattle.acl_bits.specs.Flags.{flags_of, HoldFlags}
 use Rattle.acl_bits.proofs.FlagLists.{same_len, same_words, words_left, HoldFlags-risen, flags_of-rise}

@@ -1,7 +1,7 @@
 -- All bits of the four words are counted.
 use Rattle.std.proofs.Common.{◌≡◌, ℕ, List, ap, ◌∙◌, subst, length}
 use Rattle.acl_bits.specs.Row.{is_member, is_set, row_of, IsRow}
-use Rattle.acl_bits.specs.RowLaws.{row_of-is_member}
+use Rattle.acl_bits.specs.inside.RowLaws.{row_of-is_member}
 use Rattle.acl_bits.proofs.Members.{IsRow-row_of}
 use Rattle.acl_bits.proofs.Words.{length-members}
 use Rattle.acl_bits.proofs.number_set.Row.count.Goals as goal

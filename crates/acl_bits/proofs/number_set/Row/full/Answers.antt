@@ -1,4 +1,4 @@
--- Each word has ones below the part of the count that is left for it.
+-- The lowest bits of each word are ones, as many as the count leaves for it.
 use Rattle.std.proofs.Common.{ap, ◌∙◌}
 use Rattle.acl_bits.proofs.Words.{members_of-full, full_words-from, low_word}
 use Rattle.acl_bits.proofs.number_set.Row.full.Goals as goal

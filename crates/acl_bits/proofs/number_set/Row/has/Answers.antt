@@ -1,4 +1,4 @@
--- The bit says whether the number is a member, and no number from 256 on is one.
+-- The bit is 1 exactly where the number is a member, and no number from 256 on is one.
 use Rattle.std.proofs.Common.{ap, ◌∙◌}
 use Rattle.acl_bits.specs.Row.{is_member}
 use Rattle.acl_bits.proofs.Words.{has_within, has_past}

@@ -1,4 +1,4 @@
--- A bit is written word by word.
+-- Each bit is written with its word.
 use Rattle.std.proofs.Common.{ℕ, List, ap, ◌∙◌, arith, ◌||◌}
 use Rattle.acl_bits.specs.Row.{is_member, members_of, row_of}
 use Rattle.acl_bits.proofs.Words.{join_written, join_kept, AreWords-or, members_of-or}

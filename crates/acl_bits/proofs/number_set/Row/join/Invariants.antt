@@ -1,4 +1,4 @@
--- The words before i have the bits of both sets, and those from i on their own.
+-- The words before i have the bits of both sets, and those from i on are unchanged.
 use Rattle.std.proofs.Common.{◌≡◌, ℕ, ◌<◌, ◌≤◌, get_or, bit_or}
 use Rattle.acl_bits.specs.Row.{AreWords}
 use Rattle.acl_bits.proofs.number_set.Row.join.Given as goal

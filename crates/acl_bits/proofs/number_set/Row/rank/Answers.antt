@@ -1,7 +1,7 @@
--- The members below n are the bits before place n.
+-- The members below n are the bits before bit n that are 1.
 use Rattle.std.proofs.Common.{ℕ, List, ap, ◌∙◌, sym, length, count_by, nat_lt}
 use Rattle.acl_bits.specs.Row.{is_set}
-use Rattle.acl_bits.specs.RowLaws.{numbers_below}
+use Rattle.acl_bits.specs.inside.RowLaws.{numbers_below}
 use Rattle.acl_bits.proofs.Words.{count_by-members}
 use Rattle.acl_bits.proofs.number_set.Row.rank.Goals as goal
 

@@ -1,4 +1,4 @@
--- Two sets are equal where their words are.
+-- Two sets are equal exactly where their words are equal.
 use Rattle.acl_bits.proofs.Words.{same_members}
 use Rattle.acl_bits.proofs.number_set.RowPartialEq.eq.Goals as goal
 

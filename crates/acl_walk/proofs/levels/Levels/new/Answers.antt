@@ -1,5 +1,5 @@
 use Rattle.std.proofs.Common.{ap, ◌∙◌}
-use Rattle.acl_walk.specs.Levels.{open_elements}
+use Rattle.acl_walk.specs.inside.LevelsInMemory.{open_elements}
 use Rattle.acl_walk.proofs.LevelLaws.{open_elements-nil}
 use Rattle.acl_walk.proofs.levels.Levels.new.Goals as goal
 

@@ -1,5 +1,5 @@
 use Rattle.std.proofs.Common.{◌≡◌, ◌∷◌, length, ap, sym, ◌∙◌, arith}
-use Rattle.acl_walk.specs.Levels.{open_elements}
+use Rattle.acl_walk.specs.inside.LevelsInMemory.{open_elements}
 use Rattle.acl_walk.proofs.LevelLaws.{open_elements-append, length-open_elements}
 use Rattle.acl_walk.proofs.levels.Levels.open.Goals as goal
 

@@ -1,6 +1,6 @@
 use Rattle.std.proofs.Common.{◌≡◌, ◌-◌, suc, ℕ, length, ap, ◌∙◌, arith, refl}
 use Rattle.std.specs.Vec.{vec_len}
-use Rattle.acl_walk.specs.Levels.{open_elements}
+use Rattle.acl_walk.specs.inside.LevelsInMemory.{open_elements}
 use Rattle.acl_walk.proofs.LevelLaws.{left-none, left-last, same-last, takes-first}
 use Rattle.acl_walk.proofs.levels.Levels.take_item.Goals as goal
 

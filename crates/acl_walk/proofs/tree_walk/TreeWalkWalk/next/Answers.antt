@@ -1,7 +1,7 @@
 use Rattle.std.proofs.Common.{◌≡◌, ℕ, List, ap, subst}
-use Rattle.acl_walk.specs.OpenElements.{tags_of}
+use Rattle.acl_walk.specs.inside.OpenElements.{tags_of}
 use Rattle.acl_walk.specs.TreeState.{TreeState}
-use Rattle.acl_walk.specs.TreeSteps.{Steps, to_come}
+use Rattle.acl_walk.specs.inside.TreeSteps.{Steps, to_come}
 use Rattle.acl_walk.proofs.SpotLaws.{step-is_spot, step-stands}
 use Rattle.acl_walk.proofs.tree_walk.TreeWalkWalk.next.Goals as goal
 

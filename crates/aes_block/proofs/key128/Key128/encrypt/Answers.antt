@@ -1,6 +1,6 @@
 use Rattle.std.proofs.Common.{◌≡◌, ℕ, List, sym, ap, ◌∙◌, arith}
 use Rattle.aes_block.specs.Aes.{add_round_key, cipher, full_rounds, inverse_cipher, key_expansion, round_key, shift_rows, sub_bytes}
-use Rattle.aes_block.specs.Words.{block_of_round, block_of_words}
+use Rattle.aes_block.specs.inside.ColumnWords.{block_of_round, block_of_words}
 use Rattle.aes_block.proofs.KeyLemmas.{IsState-block, block_of_round-words, encrypted, encryption_undone, words_of}
 use Rattle.aes_block.proofs.key128.Key128.encrypt.Goals as goal
 

@@ -1,6 +1,6 @@
 use Rattle.std.proofs.Common.{ℕ, ◌-◌, List, sym, ap, ◌∙◌, arith}
 use Rattle.aes_block.specs.Aes.{add_round_key, inverse_rounds, key_expansion}
-use Rattle.aes_block.specs.Words.{block_of_round, block_of_words}
+use Rattle.aes_block.specs.inside.ColumnWords.{block_of_round, block_of_words}
 use Rattle.aes_block.proofs.KeyLemmas.{inverse_round_at}
 use Rattle.aes_block.proofs.key128.Key128.three_inverse_rounds.Goals as goal
 

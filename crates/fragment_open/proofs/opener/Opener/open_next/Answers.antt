@@ -11,12 +11,12 @@ use Rattle.merkle_chunks.specs.Table.{top_level}
 use Rattle.position_cipher.specs.Fragments.{unlocked_fragment}
 use Rattle.fragment_open.specs.declared.head.Head.{Head}
 use Rattle.fragment_open.specs.declared.kept.Kept.{Kept}
-use Rattle.fragment_open.specs.Told.{Told}
-use Rattle.fragment_open.specs.Climbing.{IsNotOpened, IsOpened}
+use Rattle.fragment_open.specs.CallReads.{Told}
+use Rattle.fragment_open.specs.inside.Climbing.{IsNotOpened, IsOpened}
 use Rattle.fragment_open.specs.Held.{HoldsFile}
 use Rattle.fragment_open.specs.Starting.{HoldsDocument}
 use Rattle.fragment_open.specs.Settled.{AddsPlain, FetchEnds, Opens, Settled, goes_to_chunk, is_start, since, want_by}
-use Rattle.fragment_open.specs.Checked.{AreOpeningsChecked}
+use Rattle.fragment_open.specs.Checked.{AllFoldUnlessRefused}
 use Rattle.fragment_open.proofs.ClashLemmas.{bytes_differ, bytes_same}
 use Rattle.fragment_open.proofs.HeldLemmas.{still_holds}
 use Rattle.fragment_open.proofs.StartLemmas.{holds_file}
@@ -203,7 +203,7 @@ returns-clause-checked g c =
     let i : ℕ = c.args.index in
     let aim = c.aim_of-aim.result in
     let o = c.in-Ok.opened in
-    subst (λ store. IfSome (g.S.Store.served store) (λ all. AreOpeningsChecked false (since all))) (sym c.keep.ensures.same_now)
+    subst (λ store. IfSome (g.S.Store.served store) (λ all. AllFoldUnlessRefused false (since all))) (sym c.keep.ensures.same_now)
     (checked-fetched head.header head.top self.kept (g.S.Store.served c.args.self.now.store.now) (g.S.Store.served c.open_to.new.store) (quiet_is (g.S.Store.served c.args.self.now.store.now) head self.kept self.fault c.requires.quiet self.settled) i c.requires.within aim.goal (aim_is head i aim.goal self.kept c.aim_of-aim.ensures.goal) o.cipher o.chunk o.digest aim.want (told_opened head i aim.goal o.cipher o.chunk o.digest (g.S.Store.served c.args.self.now.store.now) (g.S.Store.served c.open_to.new.store) c.in-Ok.ensures.told) (want_is head i self.kept aim.want c.aim_of-aim.ensures.want) (bytes_same o.digest aim.want c.if-ne.ensures))
 
 pub returns-clause-plain : goal.returns-clause-plain

@@ -1,5 +1,5 @@
 use Rattle.std.proofs.Common.{◌∙◌, ◌++◌, ap, length, replicate, false}
-use Rattle.predicate_walk.specs.States.{clear_row}
+use Rattle.predicate_walk.specs.inside.States.{clear_row}
 use Rattle.predicate_walk.proofs.RowLaws.{clear_is}
 use Rattle.predicate_walk.proofs.machine.Machine.clear_row.Goals as goal
 

@@ -1,5 +1,5 @@
 use Rattle.std.proofs.Common.{◌∙◌, ap, sym, length}
-use Rattle.predicate_walk.specs.States.{number_of_states}
+use Rattle.predicate_walk.specs.inside.States.{number_of_states}
 use Rattle.predicate_walk.proofs.RowLaws.{length-row_at, length-answers}
 use Rattle.predicate_walk.proofs.machine.Machine.take_in.Goals as goal
 

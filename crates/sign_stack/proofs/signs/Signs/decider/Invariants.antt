@@ -1,6 +1,6 @@
--- The levels left decide as all do.
+-- The levels left give the same rule as all levels.
 use Rattle.std.proofs.Common.{◌≡◌, ◌≤◌, length, reverse, take}
-use Rattle.sign_stack.specs.Levels.{rule_of_levels}
+use Rattle.sign_stack.specs.SignLevels.{rule_of_levels}
 use Rattle.sign_stack.proofs.signs.Signs.decider.Given as goal
 
 abbrev pub invariant-loop-left : goal.invariant-loop-left

@@ -1,6 +1,6 @@
--- A level that is set is written over.
+-- Writing over a level gives with_level.
 use Rattle.std.proofs.Common.{ap, ◌∙◌, arith}
-use Rattle.sign_stack.specs.Levels.{SignStack, with_level}
+use Rattle.sign_stack.specs.SignLevels.{SignStack, with_level}
 use Rattle.sign_stack.proofs.LevelSteps.{with_level-set}
 use Rattle.sign_stack.proofs.signs.Signs.set.Goals as goal
 

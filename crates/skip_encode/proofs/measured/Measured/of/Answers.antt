@@ -1,11 +1,11 @@
 use Rattle.std.proofs.Common.{◌≡◌, ◌++◌, Err, length, ap, ◌∙◌, rules, arith}
 use Rattle.acl_model.specs.Stream.{element_part, branch_of}
-use Rattle.skip_encode.specs.Measures.{part_measures}
+use Rattle.skip_encode.specs.inside.Measures.{part_measures}
 use Rattle.skip_encode.specs.declared.measure_fault.MeasureFault.TheVariants as measure
 use Rattle.skip_encode.proofs.Documents.{measured-of, sections-size}
 use Rattle.skip_encode.proofs.measured.Measured.of.Goals as goal
 
--- the two sections are too large
+-- The two sections together are too large.
 pub returns-in_err-tree-clause-too_large : goal.returns-in_err-tree-clause-too_large
 returns-in_err-tree-clause-too_large c = λ e.
     let same : c.measure_tree.result ≡ Err measure.TooLarge = search rules in
@@ -16,7 +16,7 @@ returns-in_err-tree-clause-too_large c = λ e.
       sections-size c.args.doc.now c.in_ok-names.names c.in_ok-section.section c.in_ok-names.ensures.names c.in_ok-section.ensures,
     )
 
--- the document is measured
+-- The result measures the document.
 pub returns-clause-measured : goal.returns-clause-measured
 returns-clause-measured c =
     measured-of c.args.doc.now

@@ -2,12 +2,12 @@ use Rattle.std.proofs.Common.{◌≡◌, ◌+◌, ◌-◌, ◌++◌, length, tak
 use Rattle.skip_encode.proofs.Documents.{measured-fits, stream-written}
 use Rattle.skip_encode.proofs.measured.Measured.write.Goals as goal
 
--- the root fits the virtual parent
+-- The root fits the virtual parent.
 pub write_element-requires-clause-fits : goal.write_element-requires-clause-fits
 write_element-requires-clause-fits c =
     measured-fits c.args.doc.now c.args.self c.full.result c.binary_length.result c.requires.measured c.full.ensures c.binary_length.ensures.digits
 
--- the section and the tree are written, and zeros behind them
+-- The dictionary section, the tree and zeros are appended.
 pub returns : goal.returns
 returns c =
     let written = c.write_element.new.bytes.items in

@@ -3,7 +3,7 @@ use Rattle.skip_encode.proofs.Tallying.{with_element-leaf, with_element-inner}
 use Rattle.skip_encode.proofs.tally.Tally.add_element.Goals as goal
 use Rattle.skip_encode.proofs.tally.Tally.add_element.Goals.{then-count-eq0, else-count-eq0}
 
--- a leaf or an inner element is counted
+-- The element is counted as a leaf or an inner element.
 pub returns-clause-added : goal.returns-clause-added
 returns-clause-added c = elim c.if-count-eq0.branch [
   | then-count-eq0 w ↦ with_element-leaf c.args.element.now c.args.self.now c.if-count-eq0.self c.in_ok-self.field-0 c.put.new.self c.join.new.self

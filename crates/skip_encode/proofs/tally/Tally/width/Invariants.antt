@@ -1,8 +1,8 @@
 use Rattle.std.proofs.Common.{◌≤◌, ◌<◌, ◌-◌, ◌^◌, ℕ}
-use Rattle.skip_encode.specs.Tallies.{laid_size}
+use Rattle.skip_encode.specs.inside.Tallies.{laid_size}
 use Rattle.skip_encode.proofs.tally.Tally.width.Given as goal
 
--- no lower width fits
+-- No smaller width fits.
 abbrev pub invariant-loop-w : goal.invariant-loop-w
 invariant-loop-w l = record {
   few : l.w ≤ 32;

@@ -11,7 +11,7 @@ invariant-add_element-loop-item l = record {
   formed : list_all (λ b. b) (map (item_well_formed is_name) (drop l.item-index l.element.items)) ≡ true;
 }
 
--- an item is lower than the element that it stands in, and a child element as high as its item
+-- an item is lower than its element, and a child element is as high as its item
 abbrev pub decreases-add_element : goal.decreases-add_element
 decreases-add_element l = 2 * height l.element.now
 

@@ -25,7 +25,7 @@ push-requires-clause-new c =
     let had = number_in-is_some c.self.inside.numbers c.self.inside.names.items c.self.invariant c.args.name.now in
     cc
 
--- and joins
+-- and is added
 pub returns-clause-joined : goal.returns-clause-joined
 returns-clause-joined c =
     let had = number_in-is_some c.self.inside.numbers c.self.inside.names.items c.self.invariant c.args.name.now in

@@ -5,7 +5,7 @@ use Rattle.acl_model.specs.Dictionary.{are_distinct, with_names}
 use Rattle.acl_model.proofs.DictionaryLaws.{with_names-new}
 use Rattle.tag_dictionary.proofs.dictionary.Dictionary.copy.Goals as goal
 
--- all names are left to join
+-- at first all names remain to be added
 pub loop-name-init : goal.loop-name-init
 loop-name-init c =
     let apart : are_distinct c.args.self.now ≡ true = cc (c.self.invariant.apart) in

@@ -1,10 +1,10 @@
 use Rattle.std.proofs.Common.{◌≡◌, ◌<◌, false, [], ◌∷◌, ◌++◌, length, subst, sym, arith}
 use Rattle.acl_model.specs.Dictionary.{has_name}
-use Rattle.tag_dictionary.specs.Index.{IsIndex}
+use Rattle.tag_dictionary.specs.inside.Index.{IsIndex}
 use Rattle.tag_dictionary.proofs.Numbers.{IsIndex-put}
 use Rattle.tag_dictionary.proofs.dictionary.Dictionary.push.Goals as goal
 
--- the map and the names grow together
+-- the map and the list of names are extended together
 pub invariant_of-self-in-Ok : goal.invariant_of-self-in-Ok
 invariant_of-self-in-Ok c =
     let grown : c.push.new.self.items ≡ c.self.inside.names.items ++ (c.args.name.now ∷ []) = grind arith in

@@ -3,7 +3,7 @@ use Rattle.std.specs.List.{list_all}
 use Rattle.std.proofs.lemmas.Bool.Decides.{nat_tests}
 use Rattle.acl_model.specs.Names.{is_name}
 use Rattle.acl_model.specs.Dictionary.{are_new}
-use Rattle.tag_dictionary.specs.Reading.{read_names}
+use Rattle.tag_dictionary.specs.inside.NameReading.{read_names}
 use Rattle.tag_dictionary.specs.declared.fault.DictFault.TheVariants.{BadIndex}
 use Rattle.tag_dictionary.proofs.Readings.{read_names-last, read_names-left, is_dictionary-made}
 use Rattle.tag_dictionary.proofs.dictionary.Dictionary.read_names.Goals as goal

@@ -1,7 +1,7 @@
 use Rattle.std.proofs.Common.{◌≡◌, ◌-◌, ◌++◌, [], length, map}
 use Rattle.std.specs.List.{concat}
 use Rattle.acl_model.specs.Dictionary.{spelled_name}
-use Rattle.tag_dictionary.specs.Reading.{read_names}
+use Rattle.tag_dictionary.specs.inside.NameReading.{read_names}
 use Rattle.tag_dictionary.proofs.dictionary.Dictionary.read_names.Given as goal
 
 abbrev pub invariant-loop : goal.invariant-loop

@@ -1,10 +1,10 @@
--- The entries of a child are a level behind the others.
+-- The entries of a child are a level after the others.
 use Rattle.std.proofs.Common.{◌≡◌, ℕ, suc, ◌+◌, ◌-◌, ◌<◌, ◌≤◌, None, List, [], ◌∷◌, ◌++◌, false, true, length, length-append, drop, ap, sym, subst, ◌∙◌, arith, vec_capacity}
 use Rattle.rule_automata.specs.Compile.{is_closed}
 use Rattle.token_stack.specs.declared.entry.Entry.{Entry}
 use Rattle.token_stack.specs.Entries.{entries_below}
 use Rattle.token_stack.specs.Stack.{TokenStack, innermost, levels_cut, open_elements, start_of}
-use Rattle.token_stack.specs.Kept.{AreTokens}
+use Rattle.token_stack.specs.inside.Kept.{AreTokens}
 use Rattle.token_stack.proofs.CutLaws.{length-cut, push-cut}
 use Rattle.token_stack.proofs.KeptLaws.{start-le_length, innermost-cut, moved-rising, moved-room, kept-push, kept-same, kept-small}
 use Rattle.token_stack.proofs.tokens.Tokens.begin.Goals as goal

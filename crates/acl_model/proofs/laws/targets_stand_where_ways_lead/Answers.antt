@@ -1,8 +1,0 @@
-use Rattle.acl_model.proofs.TargetLaws.{targets_reached, targets_all}
-use Rattle.acl_model.proofs.laws.targets_stand_where_ways_lead.Goals as goal
-
-pub returns-clause-reached : goal.returns-clause-reached
-returns-clause-reached c = targets_reached
-
-pub returns-clause-all : goal.returns-clause-all
-returns-clause-all c = targets_all

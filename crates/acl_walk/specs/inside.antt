@@ -1,0 +1,13 @@
+pub mod CloseExamples
+pub mod EventEquations
+pub mod LevelsInMemory
+pub mod OpenElements
+pub mod OpenLaws
+pub mod PassLaws
+pub mod PieceLaws
+pub mod SpellLaws
+pub mod TagLaws
+pub mod TreeInduction
+pub mod TreeSpots
+pub mod TreeSteps
+pub mod TreeWalkLaws

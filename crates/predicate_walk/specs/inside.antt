@@ -1,0 +1,4 @@
+pub mod Met
+pub mod NameRows
+pub mod States
+pub mod KeptTexts

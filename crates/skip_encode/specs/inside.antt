@@ -1,0 +1,4 @@
+pub mod Faults
+pub mod Measured
+pub mod Measures
+pub mod Tallies

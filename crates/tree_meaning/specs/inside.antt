@@ -1,0 +1,5 @@
+pub mod Decided
+pub mod Known
+pub mod StepMarks
+pub mod Shows
+pub mod ExplainWalk
