@@ -3,16 +3,16 @@
 
     tools/worst_cases.py PROGRAM [--short] [--only WORD] [--limit SECONDS]
 
-A row of the table is one run. A case fails where a run takes more time or memory than the case
-allows, where time grows faster than the document, where a run is stopped at its limit, or where the
-answer isn't the one that is due. The exit status is 1 where a case fails, and 2 for a faulty line.
+Each row of the table is one run. A case fails if a run takes more time or memory than the case
+allows, if time grows faster than the document, if a run is stopped at its limit, or if the output
+isn't the right one. The exit status is 1 if a case fails, and 2 if the arguments are wrong.
 
---short is for the gate: it leaves out the largest documents, and prints only the cases that fail.
---only takes the cases whose line in the table has that word.
---limit is the processor seconds after which a run is stopped: 60, and 2 with --short.
+--short is for the gate. It leaves out the largest documents, and prints only the cases that fail.
+--only takes the cases that have that word in their row.
+--limit is the processor seconds after which a run is stopped: 60, or 2 with --short.
 
-Seconds are user and system time of the program alone. Memory is the most that it held; it can't be
-seen where it is less than Python itself holds, and the table shows a dash there.
+Seconds are the user and system time of the program alone. Memory is the peak of the program. It
+can't be measured where it is less than Python's own; the table has a dash there.
 """
 import argparse
 import contextlib
@@ -29,13 +29,17 @@ from itertools import cycle, islice, repeat
 from pathlib import Path
 from typing import Callable, Iterator, Optional
 
-# Times below this are noise: they say nothing of growth.
+# Shorter times are noise: they say nothing about growth.
 NOISE = 0.05
-# How much longer a document of twice the size may take.
+# How many times longer a document of twice the size may take. In the gate the machine is busy, and
+# the documents are small: the limit is wider there, and a few tenths of a second more are noise.
 GROWTH = 2.6
-# A busy machine: seconds on the clock for each processor second, before a run is stopped.
+GROWTH_IN_GATE = 3.4
+NOISE_IN_GATE = 0.25
+# For a busy machine: how many seconds by the clock a run may take for each processor second of
+# its limit.
 PATIENCE = 10
-# A case that fails is measured so many times in all, and the least counts.
+# A case that fails is measured this many times in all, and its shortest time counts.
 TRIES = 3
 
 NOTHING, WHOLE, SOME, ANY = "nothing", "the whole document", "something", "anything"
@@ -57,21 +61,21 @@ class Document:
 
 
 def around(of_names, inside):
-    """An element of each name, each in the one before it, around some lines."""
+    """An element of each name, each inside the one before it, with these lines in the innermost."""
     yield "".join(f"({name}\n" for name in of_names)
     yield from inside
     yield "".join(f"){name}\n" for name in reversed(of_names))
 
 
 def text(byte, length):
-    """One text, in pieces."""
+    """One text of this many bytes, yielded in pieces."""
     yield "-"
     yield from repeat(byte * 1_000, length // 1_000)
     yield byte * (length % 1_000) + "\n"
 
 
 def shallow(size):
-    """Many ways through nine levels lead to elements without a text, and the last one to a `z`."""
+    """Elements without a text below nine levels, reached in many ways; the last way is to a `z`."""
     def parts():
         yield from around("a" * 9, repeat("(a\n)a\n", 12_500 * size))
         yield from around("a" * 4, ["-z\n"])
@@ -84,43 +88,43 @@ def names(count):
 
 
 def empty_elements(of_names, count):
-    """That many elements, of these names in turn."""
+    """This many empty elements, with these names in turn."""
     return (f"({name}\n){name}\n" for name in islice(cycle(of_names), count))
 
 
 def with_attributes(elements, count, name="b"):
-    """Empty elements, each with so many attributes."""
+    """Empty elements, each with this many attributes."""
     attributes = "".join(f"A{name}{number} CDATA x\n" for number in range(count))
     return repeat(f"{attributes}(a\n)a\n", elements)
 
 
 def with_long_value(length):
-    """An element with one attribute, in pieces."""
+    """An element with one attribute whose value is this long, yielded in pieces."""
     yield "Ab CDATA "
     yield from repeat("x" * 1_000, length // 1_000)
     yield "\n(a\n)a\n"
 
 
 def with_long_type(length):
-    """An element with one attribute, in pieces."""
+    """An element with one attribute whose type is this long, yielded in pieces."""
     yield "Ab "
     yield from repeat("C" * 1_000, length // 1_000)
     yield " x\n(a\n)a\n"
 
 
 def wide_heads(count):
-    """Elements that are told which of 255 names stand inside them."""
+    """Elements whose heads have a bit for each of 255 names."""
     yield from empty_elements(names(254), 254)
     yield from repeat("(a\n(a\n)a\n)a\n", count)
 
 
 def chains(count, levels, bottom=""):
-    """An element with many chains in it, each of so many elements in each other."""
+    """An element with many chains in it: each is this many nested elements around `bottom`."""
     chain = "(a\n" * levels + bottom + ")a\n" * levels
     return around("a", repeat(chain, count))
 
 
-NESTED = Document("255 elements a in each other", lambda size: around("a" * 255, ["-x\n"]))
+NESTED = Document("255 nested elements a", lambda size: around("a" * 255, ["-x\n"]))
 NESTED_ABC = Document(
     "255 elements a, b, c in turn", lambda size: around("abc" * 85, ["-x\n"]))
 SIBLINGS = Document(
@@ -193,21 +197,21 @@ MOST_TEXTS = Document(
     "8 million texts of two bytes, 33 MB", lambda size: around("a", repeat("-xx\n", 8_000_000)))
 HOSPITAL = Document("acl sample 400", lambda size: ())
 LARGE_HOSPITAL = Document("acl sample 20,000", lambda size: ())
-# How many folders `acl sample` makes of a hospital, for each size.
+# How many folders `acl sample` makes, for each size of a hospital.
 FOLDERS = {HOSPITAL: {1: 400, 10: 4_000, 50: 20_000}, LARGE_HOSPITAL: {1: 20_000}}
 
 
 # ---- cases
 
-# How often the base of a document is made: n, 2n and 4n.
+# The sizes of a document that grows: each is twice the one before.
 SIZES = (1, 2, 4)
-# Processor seconds, and what a busy machine may take.
-AT_ONCE = {"most": 0.05, "most_in_gate": 0.1}
+# The limit of a case that may take no time, in processor seconds. In the gate the machine is busy.
+AT_ONCE = {"most": 0.05, "most_in_gate": 0.3}
 
 
 @dataclass(frozen=True)
 class Case:
-    """What is run, on which document, and what it may take."""
+    """What is run, on which document, and how much it may take."""
 
     what: str
     document: Document
@@ -219,9 +223,9 @@ class Case:
     # processor seconds of each run, and of each run in the gate
     most: float = math.inf
     most_in_gate: float = math.inf
-    # most memory, in times of the document
+    # the most memory, in multiples of the document's size
     memory: float = math.inf
-    # another case, and how many times its seconds this one may take
+    # another case, and the most that this one may take, in multiples of its seconds
     beside: Optional["Case"] = None
     times: float = math.inf
     answer: str = ANY
@@ -242,7 +246,7 @@ def many(path, document, answer, **more):
 
 
 def ways():
-    """Predicates whose way leads to its targets in very many ways: that may take no time."""
+    """Predicates that reach their targets in very many ways: these may take no time."""
     def case(document, path, name=""):
         return Case(name or path, document, rules_of(path), answer=NOTHING, **AT_ONCE)
 
@@ -266,7 +270,7 @@ def ways():
 
 
 def ways_of_commands():
-    """The same by the other commands and options."""
+    """The same with the other commands and options."""
     path = "//*[.//*//*//*//b]"
     for command, options, answer in (
             ("preview", ("--explain",), SOME), ("preview", ("--query", path), NOTHING),
@@ -276,7 +280,7 @@ def ways_of_commands():
 
 
 def nested():
-    """All that rules may have, over a document as deep as one may be."""
+    """As many steps, tests and predicates as rules may have, on the deepest documents allowed."""
     limits = {"most": 2, "most_in_gate": 2}
     for document in (NESTED, NESTED_ABC):
         yield many("//*[.//d]", document, NOTHING, **limits)
@@ -294,7 +298,7 @@ def nested():
 
 
 def growing():
-    """Time may grow as the document does, and not as its depth times its length."""
+    """Time may grow with the length of the document, but not with its depth times its length."""
     query = "/*" + '[.//*//*//*//*="z"]' * 53
     yield Case(f"/* and 53 predicates, {len(query)} bytes", SHALLOW, rules_of("/*"), answer=WHOLE,
                options=("--query", query), sizes=SIZES)
@@ -317,7 +321,7 @@ def growing():
 
 
 def names_and_attributes():
-    """Time may grow as the document does, also where there are many names or attributes."""
+    """The same with many names or attributes."""
     four = [f"//*[.//n{n}//n{n + 1}//n{n + 2}//n{n + 3}]" for n in range(0, 252, 4)]
     yield Case(f"{len(four)} rules {four[0]} ..", FLAT_OF_NAMES, rules_of(*four), answer=NOTHING,
                sizes=SIZES)
@@ -334,7 +338,7 @@ def names_and_attributes():
 
 
 def hospital():
-    """64 predicates of 4 tests may take ten times what one rule takes over an everyday document."""
+    """On an ordinary document, 64 predicates of 4 tests may take ten times as long as one rule."""
     plain = Case("//Folder", LARGE_HOSPITAL, rules_of("//Folder"), answer=SOME)
     yield plain
     path = '//Folder[Act/RPhys="Ana"]/Admin'
@@ -347,8 +351,8 @@ def hospital():
 
 
 def largest():
-    """What is told of deep documents, and the largest documents that there are."""
-    # `explain` also holds the stream of the file, and encodes the document again to compare it
+    """Explanations of deep documents, and the largest documents that are allowed."""
+    # `explain` also keeps the stream of the file, and encodes the document again to compare
     for command, options, memory in (("preview", ("--explain",), 40), ("explain", (), 60)):
         more = {"memory": memory, "sizes": (1, 2), "in_gate": False}
         yield Case("//*", CHAINS, rules_of("//*"), command, options, answer=SOME, **more)
@@ -366,7 +370,7 @@ def largest():
 
 
 def commands():
-    """Each command over the documents that are worst for it."""
+    """Each command on the documents that are worst for it."""
     everything = rules_of("/*")
     for document in (CHAINS, CHAINS_OF_NAMES, WIDE_HEADS, FLAT, FLAT_OF_NAMES, LONG_TEXT,
                      SIBLINGS, MOST_ATTRIBUTES, FEW_ATTRIBUTES):
@@ -392,7 +396,7 @@ class CannotRun(Exception):
 
 
 class Files:
-    """The documents, rules, files and licences of the cases, each made when it is first wanted."""
+    """The documents, rules, files and licences of the cases, each made when it is first needed."""
 
     def __init__(self, program, folder):
         self.program, self.folder, self.made = program, Path(folder), {}
@@ -401,7 +405,7 @@ class Files:
         self.keys.write_text(f"document {bytes(range(16)).hex()}\nseal {bytes(range(32)).hex()}\n")
 
     def kept(self, of, make):
-        """The file of what is asked for, which `make` writes once."""
+        """The file for this key, which `make` writes when it is first asked for."""
         if of not in self.made:
             self.count += 1
             place = self.folder / f"file{self.count}"
@@ -411,7 +415,7 @@ class Files:
         return self.made[of]
 
     def by_program(self, out, words, given=subprocess.DEVNULL):
-        """Has the program write a file, and returns what it says on standard error."""
+        """Runs the program to write a file, and returns its standard error."""
         ended = subprocess.run([self.program, *words], stdin=given, stdout=out,
                                stderr=subprocess.PIPE, timeout=120)
         if ended.returncode:
@@ -452,7 +456,7 @@ class Files:
         return self.kept((rules, root, "sealed"), make)
 
     def command(self, case, size):
-        """The words of a case, and the file for standard input."""
+        """The command line of a case, and the file for its standard input."""
         if case.command == "preview":
             words, given = [self.body(case.rules)], self.document(case.document, size)
         elif case.command == "encode":
@@ -467,7 +471,7 @@ class Files:
 
 @dataclass(frozen=True)
 class Run:
-    """What one run took. A run that was stopped has taken infinite time."""
+    """What one run took. For a run that was stopped, the time is infinite."""
 
     seconds: float
     memory: int
@@ -477,7 +481,7 @@ class Run:
 
 
 def measured(words, given, limit):
-    """Runs the program over a file, for at most so many processor seconds."""
+    """Runs the program with a file as its input, for at most `limit` processor seconds."""
     with open(given, "rb") as source, tempfile.TemporaryFile() as error:
         child = subprocess.Popen(words, stdin=source, stdout=subprocess.PIPE, stderr=error)
         with contextlib.suppress(ProcessLookupError):
@@ -500,12 +504,12 @@ def measured(words, given, limit):
 
 
 def own_memory():
-    """The bytes of memory with which each child begins, and some more."""
+    """A little more than the bytes of memory with which each child process begins."""
     return resource.getrusage(resource.RUSAGE_SELF).ru_maxrss * 1024 * 1.1
 
 
 class Trials:
-    """Runs cases, and keeps what they took."""
+    """Runs cases, and keeps what each run took."""
 
     def __init__(self, files, limit, is_short):
         self.files, self.limit, self.is_short = files, limit, is_short
@@ -518,7 +522,7 @@ class Trials:
         return self.files.document(case.document, size).stat().st_size
 
     def measure(self, case):
-        """A run for each size, up to the first that was stopped. The quickest of a size counts."""
+        """Makes a run for each size, up to the first that is stopped. The fastest one counts."""
         for size in self.sizes(case):
             words, given = self.files.command(case, size)
             run = measured(words, given, self.limit_of(case))
@@ -532,18 +536,18 @@ class Trials:
         return [(size, self.runs[case, size]) for size in sizes]
 
     def limit_of(self, case):
-        """In the gate no run goes on for long after it has failed."""
+        """The limit of a run. In the gate, a run is stopped soon after it has failed."""
         if self.is_short and case.most_in_gate < self.limit:
             return math.ceil(case.most_in_gate)
         return self.limit
 
     def faults(self, case):
-        """What is the matter with the runs of a case."""
+        """What is wrong with the runs of a case."""
         before = None
         for size, run in self.of(case):
             yield from self.faults_of_run(case, run, self.bytes_of(case, size))
             if before:
-                yield from faults_of_growth(before, (size, run.seconds))
+                yield from self.faults_of_growth(before, (size, run.seconds))
             before = size, run.seconds
 
     def faults_of_run(self, case, run, length):
@@ -566,22 +570,22 @@ class Trials:
                 yield (f"{run.seconds:.2f} s, and at most {case.times} times {beside.seconds:.2f} "
                        "are allowed")
 
+    def faults_of_growth(self, small, large):
+        """Whether the seconds grow faster than the document."""
+        (size, seconds), (larger, more) = small, large
+        growth, noise = (GROWTH_IN_GATE, NOISE_IN_GATE) if self.is_short else (GROWTH, 0)
+        allowed = growth ** math.log2(larger / size) * max(seconds, NOISE) + noise
+        if allowed < more < math.inf:
+            yield f"{more:.2f} s, and {seconds:.2f} for a document {larger // size} times smaller"
+
 
 def is_due(answer, written, length):
-    """Whether a run may write so many bytes over a document of this length."""
+    """Whether a run may write this many bytes for a document of this length."""
     if answer == ANY:
         return True
     if answer == WHOLE:
         return written == length
     return (written > 0) == (answer == SOME)
-
-
-def faults_of_growth(small, large):
-    """Whether the seconds grow faster than the document."""
-    (size, seconds), (larger, more) = small, large
-    allowed = GROWTH ** math.log2(larger / size) * max(seconds, NOISE)
-    if allowed < more < math.inf:
-        yield f"{more:.2f} s, and {seconds:.2f} for a document {larger // size} times smaller"
 
 
 # ---- what is printed
@@ -591,7 +595,7 @@ def seconds_of(run, limit):
 
 
 def memory_of(run):
-    """Megabytes, where they can be seen."""
+    """The memory in megabytes, or a dash where it can't be measured."""
     return f"{run.memory / 1e6:,.0f} MB" if run.memory > own_memory() else "-"
 
 
@@ -602,7 +606,7 @@ def print_rows(trials, case):
 
 
 def tried(trials, case):
-    """Measures a case, again where it fails, and returns what is the matter."""
+    """Measures a case, again if it fails, and returns what is wrong."""
     try:
         faults = []
         for _ in range(TRIES):
@@ -616,7 +620,7 @@ def tried(trials, case):
 
 
 def chosen(is_short, word):
-    """The cases of this run, with those that they are held against."""
+    """The cases that are to be measured."""
     cases = [case for group in GROUPS for case in group() if case.in_gate or not is_short]
     return [case for case in cases if word in f"{case.title()} {case.document.what}"]
 
@@ -624,9 +628,12 @@ def chosen(is_short, word):
 def words_of_line():
     reader = argparse.ArgumentParser(description=__doc__.split("\n")[0])
     reader.add_argument("program", help="the program acl")
-    reader.add_argument("--short", action="store_true", help="for the gate: fewer documents")
-    reader.add_argument("--only", default="", metavar="WORD", help="cases with that word")
-    reader.add_argument("--limit", type=int, metavar="SECONDS", help="when a run is stopped")
+    reader.add_argument("--short", action="store_true",
+                        help="for the gate: fewer documents, and only what fails is printed")
+    reader.add_argument("--only", default="", metavar="WORD",
+                        help="only the cases that have that word in their row")
+    reader.add_argument("--limit", type=int, metavar="SECONDS",
+                        help="the processor seconds after which a run is stopped")
     return reader.parse_args()
 
 
