@@ -10,7 +10,8 @@ for tool in xmllint onsgmls python3; do
     fi
 done
 tools=$PWD/../tools
-keys=$PWD/keys
+keys=$made/keys
+(umask 077 && cp keys "$keys")
 folder="$made/a folder"
 zeros=$(printf '0%.0s' {1..64})
 root=192458bf220db5d92fd62d4af0d3cecb63490b62c211eba93d9f548995a1a1d0
@@ -91,7 +92,7 @@ refused "no keys" 3 "read.sh: refused: 3 KeysFault" read_view nowhere "the store
 refused "no store" 34 "read.sh: refused: 34 StoreFault" read_view "$keys" nowhere "Dr Ana.licence"
 refused "no licence" 2 "read.sh: nowhere is no file that can be read" read_view "$keys" "the store/a ward.acl" nowhere
 refused "a body in place of a licence" 22 "read.sh: refused: 22 BadLicence" read_view "$keys" "the store/a ward.acl" "Dr Ana.rules"
-{ echo "document $(printf '1%.0s' {1..32})"; sed -n 2p keys; } >"$folder/other keys"
+(umask 077 && { echo "document $(printf '1%.0s' {1..32})"; sed -n 2p keys; } >"$folder/other keys")
 refused "another document key" 32 "read.sh: refused: 32 WrongKey" read_view "other keys" "the store/a ward.acl" "Dr Ana.licence"
 { sed -n 1p keys; echo "seal $zeros"; } >"$folder/other keys"
 refused "another seal key" 20 "read.sh: refused: 20 BadSeal" read_view "other keys" "the store/a ward.acl" "Dr Ana.licence"
@@ -99,6 +100,8 @@ sed 's/Admin$/Act/' "$folder/Dr Ana.licence" >"$folder/forged"
 refused "a licence that was changed" 20 "read.sh: refused: 20 BadSeal" read_view "$keys" "the store/a ward.acl" forged
 cp hospital.file "$folder/changed"
 printf x | dd of="$folder/changed" bs=1 seek=100 conv=notrunc status=none
+try "keys that anybody can read" 0 "read.sh: warning: $PWD/keys: any user of this machine can read or change these keys" \
+    read_view "$PWD/keys" "the store/a ward.acl" "Dr Ana.licence"
 refused "a byte that was changed" 35 "read.sh: refused: 35 BadFragment" read_view "$keys" changed "Dr Ana.licence"
 
 # What publish.sh refuses leaves the folder as it was, and nothing half made.
@@ -122,6 +125,7 @@ begin
 body ana.rules "licence 1" "user Ana" "+ acts Act"
 try "a path without a slash" 21 "acl: 21 BadRule line=4 at=0" publish "$keys" "a ward.xml" ana.rules
 try "a path without a slash, by its file" 21 "acl: ana.rules: " publish "$keys" "a ward.xml" ana.rules
+try "keys that anybody can read" 21 "publish.sh: warning: $PWD/keys: any user of this machine" publish "$PWD/keys" "a ward.xml" ana.rules
 left "a path without a slash" "a ward.xml" ana.rules
 body ana.rules "user Ana" "+ acts //Act"
 try "a body without its first line" 22 "acl: 22 BadLicence line=1" publish "$keys" "a ward.xml" ana.rules

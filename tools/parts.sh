@@ -30,6 +30,14 @@ need_acl() {
     export ACL=$acl
 }
 
+# Warns if any user of the machine can read or change the keys in the file $1.
+warn_of_keys() {
+    local mode
+    mode=$(stat -L -c %a -- "$1" 2>/dev/null) || return 0
+    [ "$((8#$mode & 8#007))" -eq 0 ] ||
+        echo "${0##*/}: warning: $1: any user of this machine can read or change these keys: chmod 600" >&2
+}
+
 # The file name $1 in a form that no command takes for an option.
 plain_name() {
     case $1 in

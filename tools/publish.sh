@@ -62,6 +62,7 @@ need xmllint "it is in Debian's package libxml2-utils"
 need onsgmls "it is in Debian's package opensp"
 [ "$with_namespaces" = no ] || need python3 "it is in Debian's package python3. Without it: --no-namespaces"
 need_acl
+warn_of_keys "$keys"
 for file in "$document" "${bodies[@]}"; do
     [ -f "$file" ] && [ -r "$file" ] || fail "$usage_status" "$file is no file that can be read"
 done

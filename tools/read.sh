@@ -38,6 +38,7 @@ for ((at = 4; at <= $#; at++)); do
 done
 need python3 "it is in Debian's package python3"
 need_acl
+warn_of_keys "$1"
 for file in "$3" "${namespaces[@]:1}"; do
     [ -r "$file" ] && [ ! -d "$file" ] || fail "$usage_status" "$file is no file that can be read"
 done
