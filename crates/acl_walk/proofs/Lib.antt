@@ -2,6 +2,7 @@ pub mod LevelLaws
 pub mod StepLaws
 pub mod FinishLaws
 pub mod NestLaws
+pub mod GoesLaws
 pub mod PlaceLaws
 pub mod SpotLaws
 pub mod BoundLaws

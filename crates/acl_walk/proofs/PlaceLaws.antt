@@ -1,7 +1,7 @@
 -- How a step and a pass move a position in a tree along the tree's list.
 use Rattle.std.proofs.Common.{◌≡◌, ℕ, zero, suc, ◌+◌, ◌-◌, ◌<◌, ◌≤◌, List, [], ◌∷◌, length, drop, ap, sym, subst, ◌∙◌, arith, length-drop}
 use Rattle.std.proofs.lemmas.List.{drop_all}
-use Rattle.acl_walk.specs.Nesting.{Phase, at_start, in_head, in_content, at_finish, at_end, MayCome, tags_after, phase_after, Nest}
+use Rattle.acl_walk.specs.Nesting.{Phase, at_start, in_head, in_attribute, in_content, in_text, at_finish, at_end, MayCome, tags_after, phase_after, Nest}
 use Rattle.acl_walk.specs.SpotMoves.{StandsAt, from_finish, Falls}
 use Rattle.acl_walk.specs.inside.TreeSteps.{Comes}
 use Rattle.acl_walk.specs.inside.TreeSpots.{EndsWith}
@@ -106,7 +106,9 @@ nest-step names deep tags phase End old new comes nest =
 begin_few : (names deep : ℕ) (tags : List ℕ) (phase : Phase) (tag : ℕ) (below : List ℕ) → MayCome names deep tags phase (Begin tag below) → length tags < deep
 begin_few names deep tags at_start tag below may = may.1
 begin_few names deep tags in_head tag below may = absurd may
+begin_few names deep tags in_attribute tag below may = absurd may
 begin_few names deep tags in_content tag below may = may.1
+begin_few names deep tags in_text tag below may = absurd may
 begin_few names deep tags at_finish tag below may = absurd may
 begin_few names deep tags at_end tag below may = absurd may
 

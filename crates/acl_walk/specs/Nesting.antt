@@ -1,18 +1,21 @@
--- Which events may come at a position, whatever document a walk stands for: events nest, tags are those
--- of names, pieces contain no line feed, and the number of open elements is bounded. Defined by this
--- project.
-use Rattle.std.specs.Prelude.{◌≡◌, ◌⊎◌, ℕ, ◌<◌, true, List, [], ◌∷◌, length, drop, take}
+-- Which events may come at a position, whatever document a walk stands for: events nest, an
+-- attribute or a text is ended before anything else comes, tags are those of names, pieces contain
+-- no line feed, and the number of open elements is bounded. Defined by this project.
+use Rattle.std.specs.Prelude.{◌≡◌, ◌⊎◌, ℕ, ◌<◌, Bool, true, false, List, [], ◌∷◌, length, drop, take}
 use Rattle.acl_bits.specs.declared.piece.Piece.{Piece}
 use Rattle.acl_model.specs.Lines.{is_within_line}
 use Rattle.acl_walk.specs.declared.event.Event.{Event}
 use Rattle.acl_walk.specs.declared.event.Event.TheVariants.{Begin, Attr, HeadEnd, Text, Finish, End}
 
--- Where a position (spot) is: before the first event, in the head of the innermost open element, in its
--- content, at its Finish after a pass, or after the root's Finish.
+-- Where a position (spot) is: before the first event, in the head of the innermost open element,
+-- inside an attribute of which pieces are left, in the element's content, inside a text of which
+-- pieces are left, at the element's Finish after a pass, or after the root's Finish.
 pub data Phase : Type 0 where
   at_start : Phase
   in_head : Phase
+  in_attribute : Phase
   in_content : Phase
+  in_text : Phase
   at_finish : Phase
   at_end : Phase
 
@@ -37,10 +40,10 @@ FitsLine piece = is_within_line piece.bytes.items ≡ true
 abbrev pub IsInnermost : List ℕ → ℕ → Type 0
 IsInnermost tags tag = take 1 tags ≡ tag ∷ []
 
--- The event may come in the phase, with so many names and at most `deep` open elements. Before the first
--- event the root begins or End comes. In a head come pieces of attributes, and then HeadEnd. In a content
--- come pieces of texts, elements, and then the Finish. At a Finish only the Finish comes, and after the
--- root only End.
+-- The event may come in the phase, with so many names and at most `deep` open elements. Before the
+-- first event the root begins or End comes. In a head come attributes, and then HeadEnd. In a
+-- content come texts, elements, and then the Finish. Inside an attribute or a text only its next
+-- piece comes. At a Finish only the Finish comes, and after the root only End.
 abbrev pub MayCome : ℕ → ℕ → List ℕ → Phase → Event → Type 0
 MayCome names deep tags at_start (Begin tag below) = MayBegin names deep tags tag
 MayCome names deep tags at_start (Attr piece) = ⊥
@@ -54,12 +57,24 @@ MayCome names deep tags in_head HeadEnd = Unit {0}
 MayCome names deep tags in_head (Text piece) = ⊥
 MayCome names deep tags in_head (Finish tag) = ⊥
 MayCome names deep tags in_head End = ⊥
+MayCome names deep tags in_attribute (Begin tag below) = ⊥
+MayCome names deep tags in_attribute (Attr piece) = FitsLine piece
+MayCome names deep tags in_attribute HeadEnd = ⊥
+MayCome names deep tags in_attribute (Text piece) = ⊥
+MayCome names deep tags in_attribute (Finish tag) = ⊥
+MayCome names deep tags in_attribute End = ⊥
 MayCome names deep tags in_content (Begin tag below) = MayBegin names deep tags tag
 MayCome names deep tags in_content (Attr piece) = ⊥
 MayCome names deep tags in_content HeadEnd = ⊥
 MayCome names deep tags in_content (Text piece) = FitsLine piece
 MayCome names deep tags in_content (Finish tag) = IsInnermost tags tag
 MayCome names deep tags in_content End = ⊥
+MayCome names deep tags in_text (Begin tag below) = ⊥
+MayCome names deep tags in_text (Attr piece) = ⊥
+MayCome names deep tags in_text HeadEnd = ⊥
+MayCome names deep tags in_text (Text piece) = FitsLine piece
+MayCome names deep tags in_text (Finish tag) = ⊥
+MayCome names deep tags in_text End = ⊥
 MayCome names deep tags at_finish (Begin tag below) = ⊥
 MayCome names deep tags at_finish (Attr piece) = ⊥
 MayCome names deep tags at_finish HeadEnd = ⊥
@@ -91,12 +106,24 @@ abbrev pub content_phase : List ℕ → Phase
 content_phase [] = at_end
 content_phase (tag ∷ tags) = in_content
 
+-- the phase after a piece of an attribute: in the head if it is the last piece, and else inside the
+-- attribute
+abbrev pub phase_after_attr : Bool → Phase
+phase_after_attr true = in_head
+phase_after_attr false = in_attribute
+
+-- the phase after a piece of a text: in the content if it is the last piece, and else inside the
+-- text
+abbrev pub phase_after_text : Bool → Phase
+phase_after_text true = in_content
+phase_after_text false = in_text
+
 -- the phase after an event, where these elements are open before it
 abbrev pub phase_after : List ℕ → Event → Phase
 phase_after tags (Begin tag below) = in_head
-phase_after tags (Attr piece) = in_head
+phase_after tags (Attr piece) = phase_after_attr piece.last
 phase_after tags HeadEnd = in_content
-phase_after tags (Text piece) = in_content
+phase_after tags (Text piece) = phase_after_text piece.last
 phase_after tags (Finish tag) = content_phase (drop 1 tags)
 phase_after tags End = at_end
 

@@ -86,11 +86,17 @@ impl<'a, W: Walk> Walk for Lent<'a, W> {
         self.walk.taken()
     }
 
+    fn refusal(&self) -> Option<ReadFault> {
+        self.walk.refusal()
+    }
+
     ghost listed = { W.listed };
 
     ghost within = { W.within };
 
     ghost fresh = { W.fresh };
+
+    ghost open_tags = { W.open_tags };
 
     ghost few = { W.few };
 

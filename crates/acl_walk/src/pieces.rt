@@ -3,7 +3,7 @@
 ghost use Rattle.std.specs.Prelude.{◌≡◌, ◌≤◌, ◌∷◌, length};
 ghost use Rattle.std.specs.Option.{option_copied};
 ghost use Rattle.acl_walk.specs.Pieces.{piece_of, pieces};
-ghost use Rattle.acl_walk.specs.inside.TreeSteps.{pieces_after};
+ghost use Rattle.acl_walk.specs.inside.TreeSteps.{pieces_after, ends_here};
 
 use acl_bits::Piece;
 use arrayvec::ArrayVec;
@@ -13,7 +13,8 @@ const PIECE: usize = 256;
 
 /// The first piece of the bytes, and the bytes after it if it isn't the last piece.
 pub(crate) fn cut_piece(bytes: &[u8]) -> (Piece, Option<&[u8]>)
-    ensures { pieces bytes.now ≡ result.0 ∷ pieces_after (option_copied result.1) }
+    ensures pieces { pieces bytes.now ≡ result.0 ∷ pieces_after (option_copied result.1) }
+    ensures last { result.0.last ≡ ends_here (option_copied result.1) }
 {
     if bytes.len() <= PIECE {
         return (whole_piece(bytes, true), None);

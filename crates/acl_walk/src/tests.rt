@@ -4,7 +4,8 @@
 //! numbers below 8, `=` is HeadEnd, `>1` is the Finish of tag 1, and `.` is End. `Ax` and `-x` are the
 //! last piece of an attribute and of a text; `ax` and `+x` are pieces after which another one comes.
 
-ghost use Rattle.std.specs.Prelude.{◌≡◌, None};
+ghost use Rattle.std.specs.Prelude.{◌≡◌, true, Option, None};
+ghost use Rattle.acl_model.specs.declared.document.Doc.{Doc};
 ghost use Rattle.acl_walk.specs.Following.{All};
 
 use super::*;
@@ -69,10 +70,14 @@ fn events_of(alloc: Global, lines: &str) -> Result<Vec<Event>, Fail> {
 
 /// Takes events at a spot, and checks that they are these.
 fn expect<W: Walk>(rt: &impl Abort, walk: &mut W, spot: &mut W::Spot, wants: &[Event])
-    requires { W.made (W.fixed walk.old) spot.old }
+    requires made { W.made (W.fixed walk.old) spot.old }
+    requires placed { W.broken walk.old ≡ None → (d : Doc) → W.is_origin (W.fixed walk.old) d
+        → W.sound walk.old d ≡ true → W.is_place (W.fixed walk.old) d spot.old }
     ensures same { W.fixed walk.new ≡ W.fixed walk.old }
     ensures made { W.made (W.fixed walk.old) spot.new }
-    ensures went { W.went walk.old None All walk.new }
+    ensures placed { W.broken walk.new ≡ None → (d : Doc) → W.is_origin (W.fixed walk.old) d
+        → W.sound walk.new d ≡ true → W.is_place (W.fixed walk.old) d spot.new }
+    ensures went { (o : Option Doc) → W.went walk.old o All walk.new }
 {
     for want in wants {
         match walk.next(spot) {
@@ -209,6 +214,7 @@ fn expect_lent<W: Walk>(rt: &impl Abort, alloc: Global, walk: &mut W) -> Result<
     expect(rt, &mut lent, &mut other, &events_of(alloc, ">0;.")?);
     expect(rt, &mut lent, &mut spot, &events_of(alloc, "<1 4")?);
     assert_eq!(rt; lent.taken(), 5);
+    assert!(rt; lent.refusal().is_none());
     Ok(())
 }
 
@@ -221,6 +227,7 @@ fn a_lent_walk_hands_each_call_on(rt: HostRuntime) -> Result<(), Fail> {
     let mut walk = walk_of(&rt, &doc, &names);
     expect_lent(&rt, alloc, &mut walk)?;
     assert_eq!(rt; walk.taken(), 5);
+    assert!(rt; walk.refusal().is_none());
     Ok(())
 }
 

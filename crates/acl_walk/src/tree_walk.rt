@@ -135,13 +135,19 @@ impl<'a> Walk for TreeWalk<'a> {
         self.taken
     }
 
-    ghost use Rattle.acl_walk.specs.inside.TreeWalkLaws.{tree_listed, tree_within, tree_fresh, tree_few, tree_few_open, tree_shallow, tree_named, tree_going};
+    fn refusal(&self) -> Option<ReadFault> {
+        None
+    }
+
+    ghost use Rattle.acl_walk.specs.inside.TreeWalkLaws.{tree_listed, tree_within, tree_fresh, tree_open_tags, tree_few, tree_few_open, tree_shallow, tree_named, tree_going};
 
     ghost listed = { tree_listed };
 
     ghost within = { tree_within };
 
     ghost fresh = { tree_fresh };
+
+    ghost open_tags = { tree_open_tags };
 
     ghost few = { tree_few };
 

@@ -2,12 +2,13 @@
 //! `fixed`, and what a spot means depends on that value and the spot alone. So a call doesn't affect the
 //! spots that it isn't given.
 
-ghost use Rattle.std.specs.Prelude.{◌≡◌, ℕ, ◌+◌, ◌-◌, ◌^◌, ◌<◌, ◌≤◌, Bool, true, Option, Some, None, Err, List, [], ◌∷◌, length, min, IfOk, IfErr, IfSome, OnOk};
+ghost use Rattle.std.specs.Prelude.{◌≡◌, ℕ, ◌+◌, ◌-◌, ◌^◌, ◌<◌, ◌≤◌, Bool, true, Option, Some, None, Err, List, [], ◌∷◌, length, min, IfOk, IfErr, IfSome, OnOk, OnErr};
 ghost use Rattle.acl_model.specs.Limits.{most_open_elements};
 ghost use Rattle.acl_model.specs.declared.document.Doc.{Doc};
 ghost use Rattle.acl_outside.specs.declared.read_fault.ReadFault.{ReadFault};
 ghost use Rattle.acl_walk.specs.Listed.{AreNames, IsListOf};
 ghost use Rattle.acl_walk.specs.Nesting.{Stage, MayFollow, first_stage, stage_after, stage_passed};
+ghost use Rattle.acl_walk.specs.Open.{tags_at};
 ghost use Rattle.acl_walk.specs.SpotMoves.{StandsAt, PassesTo, Falls};
 ghost use Rattle.acl_walk.specs.Following.{Places, All, Only, Goes, GoesStraight};
 ghost use Rattle.acl_walk.specs.declared.event.Event.{Event};
@@ -20,7 +21,7 @@ use std::alloc::Global;
 ///
 /// An *origin* is a document that the innermost underlying walk may be reading. For each origin the walk
 /// *stands for* one list of events. It is *sound* for the origin while no collision was met: then each
-/// spot is an index of that list, and `next` gives the event there.
+/// spot is an index of that list until a call is refused, and `next` gives the event there.
 pub trait Walk: Drop {
     /// A position of the walk.
     type Spot: Drop;
@@ -49,8 +50,8 @@ pub trait Walk: Drop {
     /// Whether the walk made the spot.
     ghost made: { Fixed → Self.Spot → Type 0 };
 
-    /// Whether the spot is an index of the list. A spot that the walk made is one, if it was moved only
-    /// by calls after which the walk was sound.
+    /// Whether the spot is an index of the list. A spot that the walk made is one, if each call
+    /// that moved it returned Ok and the walk is still sound.
     ghost is_place: { Fixed → Doc → Self.Spot → Type 0 };
 
     /// The index of the list that the spot is, from 0.
@@ -90,18 +91,20 @@ pub trait Walk: Drop {
         ensures first { IfOk result (λ spot. (d : Doc) → is_origin (fixed self.now) d
             → sound self.now d ≡ true → place (fixed self.now) d spot ≡ 0) };
 
-    /// Returns the event at the spot and moves the spot past it. A walk that has refused a call refuses
-    /// each later one in the same way.
+    /// Returns the event at the spot and moves the spot past it. A walk that has refused a call
+    /// refuses each later one in the same way. As long as it has refused none, the spot has to be an
+    /// index of the list of each origin for which the walk is sound.
     fn next(&mut self, spot: &mut Self::Spot) -> Result<Event, ReadFault>
-        requires { made (fixed self.old) spot.old }
+        requires made { made (fixed self.old) spot.old }
+        requires placed { broken self.old ≡ None → (d : Doc) → is_origin (fixed self.old) d
+            → sound self.old d ≡ true → is_place (fixed self.old) d spot.old }
         ensures same { fixed self.new ≡ fixed self.old }
         ensures made { made (fixed self.old) spot.new }
 
         // Where the walk is sound after the call, the event is the one at the spot's index.
-        ensures placed { (d : Doc) → is_origin (fixed self.old) d → sound self.new d ≡ true
-            → is_place (fixed self.old) d spot.old → is_place (fixed self.old) d spot.new }
+        ensures placed { OnOk result ((d : Doc) → is_origin (fixed self.old) d
+            → sound self.new d ≡ true → is_place (fixed self.old) d spot.new) }
         ensures event { (d : Doc) → is_origin (fixed self.old) d → sound self.new d ≡ true
-            → is_place (fixed self.old) d spot.old
             → IfOk result (λ event. StandsAt (events (fixed self.old) d)
             (place (fixed self.old) d spot.old) event (place (fixed self.old) d spot.new)) }
 
@@ -113,6 +116,12 @@ pub trait Walk: Drop {
         ensures falls { IfOk result (λ event. Falls event
             (to_come (fixed self.old) spot.old) (to_come (fixed self.old) spot.new)) }
 
+        // A refusal leaves the stage as it was, and doesn't raise the bound.
+        ensures same_stage { OnErr result (stage (fixed self.old) spot.new
+            ≡ stage (fixed self.old) spot.old) }
+        ensures no_more { OnErr result (to_come (fixed self.old) spot.new
+            ≤ to_come (fixed self.old) spot.old) }
+
         ensures kept { IfSome (broken self.old) (λ fault. result ≡ Err fault) }
         ensures whole { OnOk result (broken self.new ≡ None) }
         ensures refused { IfErr result (λ fault. broken self.new ≡ Some fault) }
@@ -122,21 +131,25 @@ pub trait Walk: Drop {
         // of the spot's index alone, and it went straight.
         ensures went_all { (o : Option Doc) → went self.old o All self.new }
         ensures went_here { (d : Doc) → is_origin (fixed self.old) d
-            → is_place (fixed self.old) d spot.old
             → went self.old (Some d) (Only (place (fixed self.old) d spot.old ∷ [])) self.new }
         ensures ahead { straight self.old spot.old self.new spot.new };
 
     /// Passes the rest of the innermost open element: moves the spot to the Finish of this element. If no
-    /// element is open, the spot stays.
+    /// element is open, the spot stays. The spot has to be an index as for `next`.
     fn pass(&self, spot: &mut Self::Spot)
-        requires { made (fixed self.now) spot.old }
+        requires made { made (fixed self.now) spot.old }
+        requires placed { broken self.now ≡ None → (d : Doc) → is_origin (fixed self.now) d
+            → sound self.now d ≡ true → is_place (fixed self.now) d spot.old }
         ensures made { made (fixed self.now) spot.new }
-        ensures placed { (d : Doc) → is_origin (fixed self.now) d → sound self.now d ≡ true
-            → is_place (fixed self.now) d spot.old → is_place (fixed self.now) d spot.new }
-        ensures finish { (d : Doc) → is_origin (fixed self.now) d → sound self.now d ≡ true
-            → is_place (fixed self.now) d spot.old
+
+        // Where the walk is sound and has refused no call, the spot moves to the list's Finish.
+        ensures placed { broken self.now ≡ None → (d : Doc) → is_origin (fixed self.now) d
+            → sound self.now d ≡ true → is_place (fixed self.now) d spot.new }
+        ensures finish { broken self.now ≡ None → (d : Doc) → is_origin (fixed self.now) d
+            → sound self.now d ≡ true
             → PassesTo (stage (fixed self.now) spot.old).tags (events (fixed self.now) d)
             (place (fixed self.now) d spot.old) (place (fixed self.now) d spot.new) }
+
         ensures stage { stage (fixed self.now) spot.new
             ≡ stage_passed (stage (fixed self.now) spot.old) }
         ensures unchanged { (stage (fixed self.now) spot.old).tags ≡ [] → spot.new ≡ spot.old }
@@ -153,6 +166,10 @@ pub trait Walk: Drop {
     fn taken(&self) -> u64
         ensures { result ≡ count self.now };
 
+    /// The refusal that the walk repeats, if it has refused a call. Nothing is read.
+    fn refusal(&self) -> Option<ReadFault>
+        ensures { result ≡ broken self.now };
+
     /// The list of an origin spells the document that the walk shows of it.
     ghost listed: { (k : Fixed) (s : Self.Spot) (d : Doc) → made k s → is_origin k d
         → IsListOf (names k) (shown k d) (events k d) };
@@ -164,6 +181,10 @@ pub trait Walk: Drop {
     /// A spot before the first event is at index 0.
     ghost fresh: { (k : Fixed) (s : Self.Spot) (d : Doc) → made k s → stage k s ≡ first_stage
         → is_origin k d → is_place k d s → place k d s ≡ 0 };
+
+    /// The elements that are open at a spot are those that are open at its index of the list.
+    ghost open_tags: { (k : Fixed) (s : Self.Spot) (d : Doc) → made k s → is_origin k d
+        → is_place k d s → (stage k s).tags ≡ tags_at (events k d) (place k d s) };
 
     /// The bound on the number of events to come is below 2^64.
     ghost few: { (k : Fixed) (s : Self.Spot) → made k s → to_come k s < 2 ^ 64 };

@@ -16,27 +16,12 @@ use Rattle.rule_automata.specs.Compile.{automata_of, states_from, have_no_predic
 use Rattle.rule_automata.specs.declared.state.State.{State}
 use Rattle.token_stack.specs.Entries.{rules_of}
 use Rattle.acl_walk.specs.Open.{OpenPlace, open_at, tags_of, tags_at}
-use Rattle.acl_walk.specs.inside.OpenLaws.{tags_of-open_after}
+use Rattle.acl_walk.specs.inside.OpenLaws.{tags_at-step}
 use Rattle.token_stack.specs.Stack.{TokenStack, entries_at, open_elements}
 use Rattle.token_stack.specs.Stand.{levels_after}
 use Rattle.token_stack.specs.TokensStand.{TokensStandAt, levels_fed, fed}
 use Rattle.token_stack.proofs.StandLaws.{levels_begin, levels_finish, length-levels, rules_at_place}
-use Rattle.token_stack.proofs.OpenLaws.{Fits, stands_at_place, fits_at, open_at-next}
-
--- ---- tags
-
-tags_at-suc : (list : List Event) (place : ℕ) (event : Event) (rest : List Event) → drop place list ≡ event ∷ rest → tags_at list (place + 1) ≡ tags_after (tags_at list place) event
-tags_at-suc list place event rest is =
-    let next : place + 1 ≡ suc place = omega arith in
-    ap (tags_at list) next ∙ ap tags_of (open_at-next [] list place event rest is) ∙ tags_of-open_after (open_at list place) event
-
-pub tags_at-next : (list : List Event) (place : ℕ) (event : Event) (next : ℕ) → StandsAt list place event next → tags_at list next ≡ tags_after (tags_at list place) event
-tags_at-next list place (Begin tag below) next at = ap (tags_at list) at.moved ∙ tags_at-suc list place (Begin tag below) (drop (place + 1) list) at.there
-tags_at-next list place (Attr piece) next at = ap (tags_at list) at.moved ∙ tags_at-suc list place (Attr piece) (drop (place + 1) list) at.there
-tags_at-next list place HeadEnd next at = ap (tags_at list) at.moved ∙ tags_at-suc list place HeadEnd (drop (place + 1) list) at.there
-tags_at-next list place (Text piece) next at = ap (tags_at list) at.moved ∙ tags_at-suc list place (Text piece) (drop (place + 1) list) at.there
-tags_at-next list place (Finish tag) next at = ap (tags_at list) at.moved ∙ tags_at-suc list place (Finish tag) (drop (place + 1) list) at.there
-tags_at-next list place End next at = ap (tags_at list) at.moved
+use Rattle.token_stack.proofs.OpenLaws.{Fits, stands_at_place, fits_at}
 
 -- ---- levels
 
@@ -65,7 +50,7 @@ fed_stand names o list states place event next tokens few spells closed stand at
   size = stand.size;
   after = ap (levels_fed states event) stand.after
       ∙ levels_move states (open_at list place) event closed (fits_at names o list place event (drop (place + 1) list) few spells at.there)
-      ∙ ap (levels_after states) (sym (tags_at-next list place event next at));
+      ∙ ap (levels_after states) (sym (tags_at-step list place event next at));
 }
 
 -- ---- what standing tokens say

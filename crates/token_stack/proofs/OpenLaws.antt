@@ -223,10 +223,3 @@ fits_at names o list zero event rest few (nothing ns) is = subst (Fits []) (ap f
 fits_at names o list (suc place) event rest few (nothing ns) is = absurd (no_event place event rest is)
 fits_at names o list place event rest few (a_document ns d own spells) is =
     along_fits names d [] (own ++ (End ∷ [])) place event rest (along_document names d (own ++ (End ∷ [])) few (a_document ns d own spells)) is
-
--- what is open one event further on
-pub open_at-next : (elements : List OpenPlace) (list : List Event) (place : ℕ) (event : Event) (rest : List Event) → drop place list ≡ event ∷ rest
-    → open_after_events elements (take (suc place) list) ≡ open_after (open_after_events elements (take place list)) event
-open_at-next elements [] place event rest is = absurd (no_event place event rest is)
-open_at-next elements (e ∷ list) zero event rest is = ap (open_after elements) (ap first_of is)
-open_at-next elements (e ∷ list) (suc place) event rest is = open_at-next (open_after elements e) list place event rest is

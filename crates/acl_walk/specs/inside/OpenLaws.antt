@@ -3,7 +3,8 @@
 use Rattle.std.proofs.Common.{◌≡◌, ℕ, zero, suc, ◌+◌, List, [], ◌∷◌, ◌++◌, map, take, drop, refl, ap, sym, subst, ◌∙◌, arith}
 use Rattle.acl_model.specs.Places.{prefixes}
 use Rattle.acl_walk.specs.Nesting.{tags_after}
-use Rattle.acl_walk.specs.Open.{OpenPlace, next_place, with_child, open_after, open_after_events, open_at, tags_of, places_of}
+use Rattle.acl_walk.specs.Open.{OpenPlace, next_place, with_child, open_after, open_after_events, open_at, tags_of, tags_at, places_of}
+use Rattle.acl_walk.specs.SpotMoves.{StandsAt}
 use Rattle.acl_walk.specs.declared.event.Event.{Event}
 use Rattle.acl_walk.specs.declared.event.Event.TheVariants.{Begin, Attr, HeadEnd, Text, Finish, End}
 
@@ -55,6 +56,30 @@ open_after_events-onward elements list zero steps new is =
 open_after_events-onward elements [] (suc old) steps new is = after_nothing elements new ∙ sym (after_nothing elements steps)
 open_after_events-onward elements (event ∷ list) (suc old) steps zero is = absurd (omega (arith, is))
 open_after_events-onward elements (event ∷ list) (suc old) steps (suc new) is = open_after_events-onward (open_after elements event) list old steps new (omega (arith, is))
+
+-- The tags after the event at an index are those after it in the list, if the event isn't End.
+tags_at-onward : (list : List Event) (old : ℕ) (event : Event)
+    → drop old list ≡ event ∷ drop (old + 1) list
+    → tags_at list (old + 1) ≡ tags_after (tags_at list old) event
+tags_at-onward list old event begins =
+    ap tags_of (open_after_events-onward [] list old 1 (old + 1) refl
+    ∙ ap (λ events. open_after_events (open_at list old) (take 1 events)) begins)
+    ∙ tags_of-open_after (open_at list old) event
+
+-- The tags at the index after an event are the tags at its own index, changed by the event.
+pub tags_at-step : (list : List Event) (old : ℕ) (event : Event) (new : ℕ)
+    → StandsAt list old event new → tags_at list new ≡ tags_after (tags_at list old) event
+tags_at-step list old (Begin tag below) new stands =
+    ap (tags_at list) stands.moved ∙ tags_at-onward list old (Begin tag below) stands.there
+tags_at-step list old (Attr piece) new stands =
+    ap (tags_at list) stands.moved ∙ tags_at-onward list old (Attr piece) stands.there
+tags_at-step list old HeadEnd new stands =
+    ap (tags_at list) stands.moved ∙ tags_at-onward list old HeadEnd stands.there
+tags_at-step list old (Text piece) new stands =
+    ap (tags_at list) stands.moved ∙ tags_at-onward list old (Text piece) stands.there
+tags_at-step list old (Finish tag) new stands =
+    ap (tags_at list) stands.moved ∙ tags_at-onward list old (Finish tag) stands.there
+tags_at-step list old End new stands = ap (tags_at list) stands.moved
 
 -- ---- places inside each other
 

@@ -2,6 +2,7 @@
 use Rattle.std.specs.Prelude.{◌≡◌, ℕ, ◌-◌, ◌≤◌, List, length, drop}
 use Rattle.acl_model.specs.Document.{height}
 use Rattle.acl_walk.specs.Nesting.{Stage, Nest, at_start}
+use Rattle.acl_walk.specs.Open.{tags_at}
 use Rattle.acl_walk.specs.inside.OpenElements.{tags_of}
 use Rattle.acl_walk.specs.TreeEvents.{document_events}
 use Rattle.acl_walk.specs.TreeState.{Tree, CanBeWalked}
@@ -37,7 +38,7 @@ tree_depth tree = height tree.doc.root
 
 -- A walk over this tree made the spot: the events to come are a suffix of the tree's list, and
 -- nest. Before the first event they are the whole list. At most as many elements are open as the
--- document is high.
+-- document is high, and they are those that are open at the spot's index.
 pub record IsSpotOf (tree : Tree) (spot : TreeSpot) : Type 0 where
   pub walked : CanBeWalked tree
   pub rest : EndsWith (tree_events tree) (spot_to_come tree spot)
@@ -46,4 +47,5 @@ pub record IsSpotOf (tree : Tree) (spot : TreeSpot) : Type 0 where
   pub fresh : phase_of spot.now (tags_of spot.levels) ≡ at_start
       → spot_to_come tree spot ≡ tree_events tree
   pub few_open : length spot.levels ≤ tree_depth tree
+  pub open_tags : tags_of spot.levels ≡ tags_at (tree_events tree) (spot_place tree spot)
   pub inside : IsInside spot.now spot.levels

@@ -1,9 +1,9 @@
 -- Positions in a tree: the events to come from one, and what a step does. Defined by this project.
-use Rattle.std.specs.Prelude.{◌≡◌, ℕ, ◌<◌, List, [], ◌∷◌, ◌++◌, length, Option, Some, None}
+use Rattle.std.specs.Prelude.{◌≡◌, ℕ, ◌<◌, Bool, true, false, List, [], ◌∷◌, ◌++◌, length, Option, Some, None}
 use Rattle.std.specs.List.{flat_map}
 use Rattle.acl_bits.specs.declared.piece.Piece.{Piece}
 use Rattle.acl_walk.specs.Pieces.{pieces}
-use Rattle.acl_walk.specs.Nesting.{Phase, at_start, in_head, at_finish, content_phase, tags_after, phase_after}
+use Rattle.acl_walk.specs.Nesting.{Phase, at_start, in_head, in_attribute, in_text, at_finish, content_phase, tags_after, phase_after}
 use Rattle.acl_walk.specs.inside.OpenElements.{OpenElement, tags_of, content_to_come, finish_to_come}
 use Rattle.acl_walk.specs.TreeEvents.{attribute_events, text_events, element_events}
 use Rattle.acl_walk.specs.declared.event.Event.{Event}
@@ -31,9 +31,9 @@ to_come names now.Finish levels = finish_to_come names levels
 abbrev pub phase_of : Now → List ℕ → Phase
 phase_of (now.Root element) tags = at_start
 phase_of (now.Head raws) tags = in_head
-phase_of (now.Attribute bytes raws) tags = in_head
+phase_of (now.Attribute bytes raws) tags = in_attribute
 phase_of now.Content tags = content_phase tags
-phase_of (now.Text bytes) tags = content_phase tags
+phase_of (now.Text bytes) tags = in_text
 phase_of now.Finish tags = at_finish
 
 -- Some element is open, if the position is in a head, in an attribute or in a text.
@@ -67,3 +67,8 @@ pub record Steps (names : List (List ℕ)) (event : Event) (list : List Event) (
 abbrev pub pieces_after : Option (List ℕ) → List Piece
 pieces_after None = []
 pieces_after (Some bytes) = pieces bytes
+
+-- The bytes end with a piece, if none are left after it.
+abbrev pub ends_here : Option (List ℕ) → Bool
+ends_here None = true
+ends_here (Some bytes) = false

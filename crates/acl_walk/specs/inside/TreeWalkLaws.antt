@@ -9,6 +9,7 @@ use Rattle.acl_model.specs.declared.document.Doc.{Doc}
 use Rattle.acl_walk.specs.Following.{Goes}
 use Rattle.acl_walk.specs.Listed.{AreNames, IsListOf}
 use Rattle.acl_walk.specs.Nesting.{Stage, first_stage}
+use Rattle.acl_walk.specs.Open.{tags_at}
 use Rattle.acl_walk.specs.inside.OpenElements.{OpenElement, items_events, content_to_come, finish_to_come, tags_of}
 use Rattle.acl_walk.specs.TreeEvents.{text_events, attribute_events, element_events}
 use Rattle.acl_walk.specs.TreeState.{Tree, TreeState}
@@ -63,6 +64,11 @@ tree_within k s d made origin place = omega (arith, made.rest.shorter, some-to_c
 -- A spot before the first event is at index 0.
 pub tree_fresh : (k : Tree) (s : TreeSpot) (d : Doc) → IsSpotOf k s → spot_stage s ≡ first_stage → d ≡ k.doc → Unit {0} → spot_place k s ≡ 0
 tree_fresh k s d made first origin place = omega (arith, ap length (made.fresh (ap (λ (stage : Stage). stage.phase) first)))
+
+-- The open elements at a spot are those that are open at its index.
+pub tree_open_tags : (k : Tree) (s : TreeSpot) (d : Doc) → IsSpotOf k s → d ≡ k.doc → Unit {0}
+    → tags_of s.levels ≡ tags_at (tree_events k) (spot_place k s)
+tree_open_tags k s d made origin place = made.open_tags
 
 -- The events to come are fewer than 2^64.
 pub tree_few : (k : Tree) (s : TreeSpot) → IsSpotOf k s → length (spot_to_come k s) < 2 ^ 64

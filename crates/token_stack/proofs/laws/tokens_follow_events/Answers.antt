@@ -1,6 +1,7 @@
 -- The laws of FeedLaws.
 use Rattle.std.proofs.Common.{refl}
-use Rattle.token_stack.proofs.FeedLaws.{fed_stand, tags_at-next}
+use Rattle.acl_walk.specs.inside.OpenLaws.{tags_at-step}
+use Rattle.token_stack.proofs.FeedLaws.{fed_stand}
 use Rattle.token_stack.proofs.PassLaws.{pass_stand}
 use Rattle.token_stack.proofs.laws.tokens_follow_events.Goals as goal
 
@@ -9,5 +10,5 @@ returns c = record {
   new = λ states list depth. record { size = refl; after = refl };
   event = fed_stand;
   pass = pass_stand;
-  tags = tags_at-next;
+  tags = tags_at-step;
 }
