@@ -1,4 +1,3 @@
-pub mod ClashGrowth
 pub mod StreamLemmas
 pub mod ShownLemmas
 pub mod OrderLemmas

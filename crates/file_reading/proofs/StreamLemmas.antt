@@ -32,7 +32,7 @@ use Rattle.fragment_open.proofs.DocumentLemmas.{header-agrees}
 use Rattle.fragment_open.proofs.FetchLemmas.{settled-regular}
 use Rattle.fragment_open.proofs.SinceLemmas.{since-append}
 use Rattle.file_reading.specs.FileEnds.{AreFirst, HeldEnds, IsHonestFault, IsStreamCause, IsStreamFault, IsStreamRead, OfHeldDocument, StreamEnds}
-use Rattle.file_reading.proofs.ClashGrowth.{clash-before}
+use Rattle.fragment_open.proofs.ClashGrowth.{clash-before}
 
 -- a fragment follows those before it
 fragment_after : (i : ℕ) (bytes : List ℕ) → 256 * (i + 1) ≤ length bytes → take (256 * i) bytes ++ get_or (fragments bytes) i [] ≡ take (256 * (i + 1)) bytes

@@ -15,3 +15,5 @@ pub mod TellLemmas
 pub mod CheckedLemmas
 pub mod RegularLemmas
 pub mod HonestLemmas
+pub mod ClashGrowth
+pub mod SoundLemmas

@@ -96,11 +96,11 @@ siblings_after (r ∷ reads) o os h =
     ∙ siblings_after reads (with_sibling o r) os h.1
     ∙ ap (λ (s : List StoreRead). record { leaf = o.leaf; siblings = s } ∷ os) (append_assoc o.siblings (r ∷ []) reads)
 
-fold-append : (os : List Opening) (xs ys : List StoreRead) → fold with_read os (xs ++ ys) ≡ fold with_read (fold with_read os xs) ys
+pub fold-append : (os : List Opening) (xs ys : List StoreRead) → fold with_read os (xs ++ ys) ≡ fold with_read (fold with_read os xs) ys
 fold-append os [] ys = refl
 fold-append os (x ∷ xs) ys = fold-append (with_read os x) xs ys
 
-drop_two : (xs ys : List StoreRead) → 2 ≤ length xs → drop 2 (xs ++ ys) ≡ drop 2 xs ++ ys
+pub drop_two : (xs ys : List StoreRead) → 2 ≤ length xs → drop 2 (xs ++ ys) ≡ drop 2 xs ++ ys
 drop_two [] ys h = absurd (omega (arith, h))
 drop_two (a ∷ []) ys h = absurd (omega (arith, h))
 drop_two (a ∷ b ∷ xs) ys h = refl

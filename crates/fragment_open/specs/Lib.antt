@@ -10,4 +10,5 @@ pub mod Held
 pub mod Starting
 pub mod Settled
 pub mod Checked
+pub mod Sound
 pub mod inside

@@ -1,21 +1,27 @@
-//! Laws of the definitions: of reads, of clashes (collisions of two strings with one name and one digest), and of good
-//! reads under a document's root. The functions do nothing; their contracts are the laws.
-ghost use Rattle.std.specs.Prelude.{◌≡◌, ◌↔◌, ℕ, List, [], ◌∷◌, ◌++◌, Some, true, false, slice_index_or};
+//! Laws of the definitions: of reads, of clashes (collisions of two strings with one name and one digest), of good
+//! reads under a document's root, and of the documents for which an opener is sound. The functions do nothing; their
+//! contracts are the laws.
+ghost use Rattle.std.specs.Prelude.{◌≡◌, ◌↔◌, ℕ, List, [], ◌∷◌, ◌++◌, Option, None, Some, IfSome, true, false, slice_index_or};
 ghost use Rattle.std.specs.List.{list_any};
 ghost use Rattle.acl_model.specs.Document.{is_document};
-ghost use Rattle.acl_model.specs.Stream.{has_stream};
+ghost use Rattle.acl_model.specs.Stream.{has_stream, plain};
 ghost use Rattle.acl_model.specs.declared.document.Doc.{Doc};
 ghost use Rattle.aes_block.specs.Aes.{AreBytes};
 ghost use Rattle.acl_outside.specs.Outside.{StoreRead};
 ghost use Rattle.merkle_chunks.specs.HeaderBytes.{IsInRange, header_bytes};
-ghost use Rattle.merkle_chunks.specs.File.{HasRoot, cipher_fragments, document_header, file};
+ghost use Rattle.merkle_chunks.specs.File.{HasRoot, cipher_fragments, document_header, file, file_root};
 ghost use Rattle.merkle_chunks.specs.Strings.{StringName};
+ghost use Rattle.merkle_chunks.specs.Table.{fragments};
 ghost use Rattle.merkle_chunks.specs.declared.header.Header.{Header};
+ghost use Rattle.fragment_open.specs.declared.kept.Kept.{Kept};
+ghost use Rattle.fragment_open.specs.CallReads.{Told};
 ghost use Rattle.fragment_open.specs.Openings.{Opening, index_of, openings};
 ghost use Rattle.fragment_open.specs.Asks.{opening_asks};
-ghost use Rattle.fragment_open.specs.Served.{IsRegular, header_in};
+ghost use Rattle.fragment_open.specs.Served.{IsRegular, header_in, header_served, top_served};
 ghost use Rattle.fragment_open.specs.Clash.{IsClash, has_clash, reads_clash};
-ghost use Rattle.fragment_open.specs.Settled.{is_start, since};
+ghost use Rattle.fragment_open.specs.Settled.{AreHeld, IsFetched, Settled, is_start, root_by, since};
+ghost use Rattle.fragment_open.specs.Sound.{IsOrigin, sound_for};
+ghost use Rattle.fragment_open.specs.Starting.{HoldsDocument};
 ghost use Rattle.fragment_open.specs.Checked.{AreVerifiedUnder, AreReadsOf};
 
 /// The header in bytes is the header with exactly these bytes, where there is one.
@@ -70,4 +76,42 @@ pub fn a_store_that_holds_the_file_gives_no_clash()
     ensures { (d : Doc) (key : List ℕ) (reads : List StoreRead)
         → is_document d ≡ true → has_stream d ≡ true → AreBytes 16 key
         → IsRegular reads → AreReadsOf (file d key) reads → reads_clash reads d key ≡ false }
+{}
+
+/// Longer reads of an opener have the clashes of shorter ones. So an opener that is sound for a document after a call
+/// was sound for it before.
+pub fn a_sound_opener_was_sound_before()
+    ensures reads { (h : Header) (top : List ℕ) (before more : List StoreRead)
+        (d : Doc) (key : List ℕ)
+        → header_served before ≡ Some h → top_served before ≡ Some top
+        → reads_clash (before ++ more) d key ≡ false → reads_clash before d key ≡ false }
+    ensures opener { (h : Header) (top : List ℕ) (kept : Option Kept)
+        (before after : Option (List StoreRead)) (held : Option (List ℕ))
+        (d : Doc) (key : List ℕ)
+        → Settled before h top kept None
+        → Told before after (λ more. list_any is_start more ≡ false)
+        → sound_for after held d key ≡ true → sound_for before held d key ≡ true }
+{}
+
+/// While an opener that has refused nothing is sound for a document with its root, the document is an origin: its file
+/// has the header that the opener started with.
+pub fn a_sound_document_with_the_root_is_an_origin()
+    ensures { (h : Header) (top key : List ℕ) (kept : Option Kept)
+        (served : Option (List StoreRead)) (held : Option (List ℕ)) (d : Doc)
+        → IsInRange h → AreBytes 16 key
+        → Settled served h top kept None → AreHeld held h top key kept
+        → is_document d ≡ true → HasRoot d key (root_by h top) → sound_for served held d key ≡ true
+        → IsOrigin h top key d }
+{}
+
+/// A fragment that was fetched is that of each document with the root for which the opener is sound after the call.
+pub fn a_fetched_fragment_is_of_each_sound_document()
+    ensures { (h : Header) (top key bytes : List ℕ) (index : ℕ)
+        (served : Option (List StoreRead)) (held : Option (List ℕ)) (d : Doc)
+        → AreBytes 16 key
+        → IfSome served (λ all. IsFetched index h top key bytes (since all))
+        → ((e : Doc) → HoldsDocument held e key → file_root e key ≡ root_by h top
+        → bytes ≡ slice_index_or (fragments (plain e)) index [])
+        → is_document d ≡ true → HasRoot d key (root_by h top) → sound_for served held d key ≡ true
+        → bytes ≡ slice_index_or (fragments (plain d)) index [] }
 {}

@@ -18,7 +18,7 @@ use Rattle.fragment_open.specs.Served.{fragments_served, header_served, root_ser
 use Rattle.fragment_open.proofs.ClashLemmas.{clash_found, found_clash}
 use Rattle.fragment_open.proofs.ClimbLemmas.{string_at-more}
 use Rattle.fragment_open.proofs.KeyLemmas.{either}
-use Rattle.fragment_open.proofs.SinceLemmas.{header_served-more, top_served-more, two_reads}
+use Rattle.fragment_open.proofs.SinceLemmas.{drop_two, fold-append, header_served-more, top_served-more, two_reads}
 use Rattle.fragment_open.proofs.TreeLemmas.{if_true, if_false}
 
 -- ---- one more read of a sibling
@@ -92,18 +92,9 @@ reads-more : (n : ℕ) (os : List Opening) (t : List StoreRead) (s : StringName 
 reads-more n os [] s has = has
 reads-more n os (r ∷ t) s has = reads-more n (with_read os r) t s (read-more n os r s has)
 
-fold-more : (os : List Opening) (xs ys : List StoreRead) → fold with_read os (xs ++ ys) ≡ fold with_read (fold with_read os xs) ys
-fold-more os [] ys = refl
-fold-more os (x ∷ xs) ys = fold-more (with_read os x) xs ys
-
-two_dropped : (xs ys : List StoreRead) → 2 ≤ length xs → drop 2 (xs ++ ys) ≡ drop 2 xs ++ ys
-two_dropped [] ys h = absurd (omega (arith, h))
-two_dropped (a ∷ []) ys h = absurd (omega (arith, h))
-two_dropped (a ∷ b ∷ xs) ys h = refl
-
 openings-after : (a t : List StoreRead) → 2 ≤ length a → openings (a ++ t) ≡ fold with_read (openings a) t
 unfolding openings
-openings-after a t two = ap (fold with_read []) (two_dropped a t two) ∙ fold-more [] (drop 2 a) t
+openings-after a t two = ap (fold with_read []) (drop_two a t two) ∙ fold-append [] (drop 2 a) t
 
 -- what reads hash, by the header and the top digest served
 hashed-by : (h : Header) (top : List ℕ) (reads : List StoreRead) → header_served reads ≡ Some h → top_served reads ≡ Some top
