@@ -59,20 +59,20 @@ dictionary_formed d good within =
     (subst (λ (l : List (List ℕ)). length (with_names [] l) ≤ 256) (start_names_is e) (few_so d within))
 
 -- All names of elements in a document are in its dictionary.
-among_so : (d : Doc) → is_document d ≡ true → is_well_formed (has_name (dictionary d)) d.root ≡ true
+pub among_so : (d : Doc) → is_document d ≡ true → is_well_formed (has_name (dictionary d)) d.root ≡ true
 among_so d good = well_formed-by is_name (has_name (dictionary d)) d.root (well_formed_so d good) (with_names-has [] (start_names d.root))
 
 -- ---- the tree section
 
 -- the length of a root's tree, with this many names, for each width
-abbrev lengths : ℕ → Branch → ℕ → ℕ
+abbrev pub lengths : ℕ → Branch → ℕ → ℕ
 lengths names root w = size (tree_at names root w)
 
-lengths_is : (names : ℕ) (root : Branch) (w : ℕ) → bytes_of_segments (tree_at names root w) ≡ part_bytes (row_of (λ k. nat_lt k names)) w (element_part root)
+pub lengths_is : (names : ℕ) (root : Branch) (w : ℕ) → bytes_of_segments (tree_at names root w) ≡ part_bytes (row_of (λ k. nat_lt k names)) w (element_part root)
 unfolding part_bytes
 lengths_is names root w = ap (λ (m : List ℕ). bytes_of_segments (part_segments m w (element_part root))) (numbers_with-row (λ k. nat_lt k names))
 
-lengths_grow : (names : ℕ) (root : Branch) (v w : ℕ) → v ≤ w → lengths names root v ≤ lengths names root w
+pub lengths_grow : (names : ℕ) (root : Branch) (v w : ℕ) → v ≤ w → lengths names root v ≤ lengths names root w
 unfolding size
 lengths_grow names root v w more =
     let one = ap length (lengths_is names root v) in
@@ -80,7 +80,7 @@ lengths_grow names root v w more =
     let grows = part_grows (row_of (λ k. nat_lt k names)) (element_part root) v w more in
     omega (arith, one, other, grows)
 
-tree_section_is : (d : Doc) → tree_section d ≡ bytes_of_segments (tree_at (length (dictionary d)) (branch_of (dictionary d) d.root) (least_width (lengths (length (dictionary d)) (branch_of (dictionary d) d.root))))
+pub tree_section_is : (d : Doc) → tree_section d ≡ bytes_of_segments (tree_at (length (dictionary d)) (branch_of (dictionary d) d.root) (least_width (lengths (length (dictionary d)) (branch_of (dictionary d) d.root))))
 unfolding tree_segments
 tree_section_is d = refl
 
@@ -139,7 +139,7 @@ tree_read d deep good within low =
 
 -- ---- the stream
 
-abbrev zeros : Doc → List ℕ
+abbrev pub zeros : Doc → List ℕ
 zeros d = replicate ((256 - length (dictionary_section (dictionary d) ++ tree_section d) % 256) % 256) 0
 
 -- The dictionary section, and then the tree section, is split off the start of the stream.

@@ -36,7 +36,7 @@ ElementReads names e =
     → read_element names deep e.name (branch_of names e).below (bytes_of_segments (branch_of names e).content) ≡ Some e
 
 -- The numbers in a part pass the test.
-abbrev Passes : (ℕ → Bool) → Part → Type 0
+abbrev pub Passes : (ℕ → Bool) → Part → Type 0
 Passes p part = (k : ℕ) → k < 256 → holds_number k part ≡ true → p k ≡ true
 
 -- An item is read in a parent whose members are a test's numbers, where the numbers in the item pass too, whatever
@@ -48,7 +48,7 @@ ItemReads names item =
     → take_item (read_element names deep) names (row_of p) w (part_bytes (row_of p) w (part_of names item) ++ rest) ≡ Some (item, rest)
 
 -- The numbers in all parts pass the test.
-abbrev AllPass : (ℕ → Bool) → List Part → Type 0
+abbrev pub AllPass : (ℕ → Bool) → List Part → Type 0
 AllPass p parts = (k : ℕ) → k < 256 → list_any (holds_number k) parts ≡ true → p k ≡ true
 
 -- Items are read up to the end of the bytes.
@@ -63,7 +63,7 @@ ItemsRead names items =
 -- ---- lists of items
 
 -- Each part has at least one byte.
-part_some : (members : List ℕ) (w : ℕ) (part : Part) → 1 ≤ length (part_bytes members w part)
+pub part_some : (members : List ℕ) (w : ℕ) (part : Part) → 1 ≤ length (part_bytes members w part)
 part_some members w (text_part bytes) = let is = ap length (part_bytes-text members w bytes) in omega (arith, is)
 part_some members w (element_part b) =
     let is = ap length (part_bytes-element members w b) ∙ length-append (bytes_of (head_bits members w b.tag b.below (size b.content))) (bytes_of_segments b.content) in
@@ -71,10 +71,10 @@ part_some members w (element_part b) =
     let bits = length-head_bits members w b.tag b.below (size b.content) in
     omega (arith, is, head, bits)
 
-first_passes : (p : ℕ → Bool) (part : Part) (parts : List Part) → AllPass p (part ∷ parts) → Passes p part
+pub first_passes : (p : ℕ → Bool) (part : Part) (parts : List Part) → AllPass p (part ∷ parts) → Passes p part
 first_passes p part parts all k small holds = all k small (ap (λ b. b || list_any (holds_number k) parts) holds)
 
-others_pass : (p : ℕ → Bool) (part : Part) (parts : List Part) → AllPass p (part ∷ parts) → AllPass p parts
+pub others_pass : (p : ℕ → Bool) (part : Part) (parts : List Part) → AllPass p (part ∷ parts) → AllPass p parts
 others_pass p part parts all k small holds = all k small (ap (λ b. holds_number k part || b) holds ∙ always (holds_number k part))
   where
     always : (b : Bool) → (b || true) ≡ true
@@ -133,7 +133,7 @@ content_read names deep tag members e parts few small read =
     ∙ ap (option_and_then last) (take_attributes-prefix e.attributes items (omega (arith, long, small)))
     ∙ ap (option_map (λ items. record { name = e.name; attributes = e.attributes; items = items })) read
 
-few_attributes : (names : List (List ℕ)) (e : Element) → is_well_formed (has_name names) e ≡ true → length e.attributes ≤ 65535
+pub few_attributes : (names : List (List ℕ)) (e : Element) → is_well_formed (has_name names) e ≡ true → length e.attributes ≤ 65535
 few_attributes names e good =
     let own = has_name names e.name in
     let few = nat_le (length e.attributes) 65535 in
@@ -142,7 +142,7 @@ few_attributes names e good =
     let bounded : nat_le (length e.attributes) 65535 ≡ true = second_so own few (first_so (own && few) raw (first_so (own && few && raw) items (sym (well_formed_is (has_name names) e) ∙ good))) in
     grind (arith, nat_tests)
 
-good_items : (names : List (List ℕ)) (e : Element) → is_well_formed (has_name names) e ≡ true → list_all (λ b. b) (map (item_well_formed (has_name names)) e.items) ≡ true
+pub good_items : (names : List (List ℕ)) (e : Element) → is_well_formed (has_name names) e ≡ true → list_all (λ b. b) (map (item_well_formed (has_name names)) e.items) ≡ true
 good_items names e good =
     second_so (has_name names e.name && nat_le (length e.attributes) 65535 && list_all is_raw_attribute e.attributes) (list_all (λ b. b) (map (item_well_formed (has_name names)) e.items)) (sym (well_formed_is (has_name names) e) ∙ good)
 

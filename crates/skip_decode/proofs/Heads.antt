@@ -1,5 +1,5 @@
 -- The bits of a head are read as that head.
-use Rattle.std.proofs.Common.{◌≡◌, ℕ, zero, suc, ◌+◌, ◌-◌, ◌/◌, ◌^◌, ◌<◌, ◌≤◌, Bool, true, false, cond, ◌&&◌, ◌||◌, nat_lt, nat_eq, Option, Some, List, [], ◌∷◌, ◌++◌, length, map, count_by, refl, ap, sym, ◌∙◌, subst, arith, inl, inr, ◌⊎◌, ⊎_elim}
+use Rattle.std.proofs.Common.{◌≡◌, ℕ, zero, suc, ◌+◌, ◌-◌, ◌/◌, ◌^◌, ◌<◌, ◌≤◌, Bool, true, false, cond, ◌&&◌, ◌||◌, nat_lt, nat_eq, Option, None, Some, List, [], ◌∷◌, ◌++◌, length, map, count_by, refl, ap, sym, ◌∙◌, subst, arith, inl, inr, ◌⊎◌, ⊎_elim}
 use Rattle.std.specs.Prelude.{slice_get}
 use Rattle.std.specs.Option.{option_and_then, option_map}
 use Rattle.std.proofs.lemmas.Bool.Decides.{nat_tests}
@@ -15,7 +15,8 @@ use Rattle.acl_model.specs.Stream.{has_member, numbers_with, rank, set_bits, hea
 use Rattle.acl_model.proofs.WidthLaws.{least_width-least}
 use Rattle.acl_model.proofs.SizeLaws.{length-head_bits, length-set_bits}
 use Rattle.skip_decode.specs.declared.head.Head.{Head}
-use Rattle.skip_decode.specs.inside.TreeReading.{take_bits, with_number, take_members, take_below, head_bytes, take_head}
+use Rattle.skip_decode.specs.inside.TreeReading.{take_bits, with_number, take_members, not_empty, take_below, head_bytes, take_head_on, take_head}
+use Rattle.skip_decode.specs.StreamSteps.{inner_of}
 use Rattle.skip_decode.proofs.Taking.{take_bits-prefix, take_bits-model}
 
 -- ---- sets
@@ -25,7 +26,7 @@ pub numbers_with-row : (p : ℕ → Bool) → numbers_with p ≡ row_of p
 unfolding numbers_with row_of
 numbers_with-row p = refl
 
-is_member-has : (members : List ℕ) (n : ℕ) → is_member members n ≡ has_member members n
+pub is_member-has : (members : List ℕ) (n : ℕ) → is_member members n ≡ has_member members n
 unfolding is_member
 is_member-has members n = refl
 
@@ -34,7 +35,7 @@ pub has_member-row : (p : ℕ → Bool) (n : ℕ) → n < 256 → has_member (ro
 has_member-row p n small = sym (is_member-has (row_of p) n) ∙ is_member-row_of p n small
 
 -- Where no number passes, the set is empty.
-row_of-none : row_of (λ n. false) ≡ []
+pub row_of-none : row_of (λ n. false) ≡ []
 unfolding row_of
 row_of-none = refl
 
@@ -63,7 +64,7 @@ take_members-read (m ∷ members) below numbers back =
     digit_test true one other = refl
     digit_test false one other = refl
 
-or_false : (b : Bool) → b ≡ (b || false)
+pub or_false : (b : Bool) → b ≡ (b || false)
 or_false true = refl
 or_false false = refl
 
@@ -145,10 +146,12 @@ joined-part p q part =
 
 -- ---- the tag set in a head
 
--- 1 where the set is not empty, so the element has element children, else 0
-abbrev pub inner_of : List ℕ → ℕ
-inner_of [] = 0
-inner_of (n ∷ below) = 1
+-- A set with a member isn't empty.
+not_empty-some : (n : ℕ) (below : List ℕ) (back : List Bool) → not_empty (n ∷ below, back) ≡ Some (n ∷ below, back)
+unfolding not_empty
+not_empty-some n below back =
+    let some : nat_eq (length (n ∷ below)) 0 ≡ false = grind (arith, nat_tests) in
+    ap (λ b. cond b None (Some (n ∷ below, back))) some
 
 -- The bits of an element's set are read as the set, whatever is read next.
 take_set : {B : Type 0} (next : ℕ → List ℕ × List Bool → Option B) (p q : ℕ → Bool) (below : List ℕ) (back : List Bool) → below ≡ row_of q → IsPart q p
@@ -158,8 +161,9 @@ unfolding take_below
 take_set next p q [] back is part = ap (option_and_then (λ inner. option_and_then (next inner.0) (take_below (row_of p) inner.0 inner.1))) (one_bit false back)
 take_set next p q (n ∷ below) back is part =
     ap (option_and_then (λ inner. option_and_then (next inner.0) (take_below (row_of p) inner.0 inner.1))) (one_bit true (map (has_member (n ∷ below)) (row_of p) ++ back))
-    ∙ ap (option_and_then (next 1)) (take_members-read (row_of p) (n ∷ below) [] back)
-    ∙ ap (λ l. next 1 (l, back)) (subst (λ (l : List ℕ). joined (row_of p) l [] ≡ l) (sym is) (joined-part p q part))
+    ∙ ap (λ o. option_and_then (next 1) (option_and_then not_empty o)) (take_members-read (row_of p) (n ∷ below) [] back)
+    ∙ ap (λ l. option_and_then (next 1) (not_empty (l, back))) (subst (λ (l : List ℕ). joined (row_of p) l [] ≡ l) (sym is) (joined-part p q part))
+    ∙ ap (option_and_then (next 1)) (not_empty-some n below back)
 
 -- ---- indexes of members
 
@@ -193,7 +197,7 @@ number-fits m n few within =
 -- ---- heads
 
 -- The reader's size of a head in bytes is that of the head's bits.
-head_bytes-counted : (members : List ℕ) (w tag : ℕ) (below : List ℕ) (long : ℕ)
+pub head_bytes-counted : (members : List ℕ) (w tag : ℕ) (below : List ℕ) (long : ℕ)
     → head_bytes (length members) (binary_length (length members - 1)) (inner_of below) w ≡ (length (head_bits members w tag below long) + 7) / 8
 head_bytes-counted members w tag [] long = let bits = length-head_bits members w tag [] long in omega (arith, bits)
 head_bytes-counted members w tag (n ∷ below) long =
@@ -201,23 +205,30 @@ head_bytes-counted members w tag (n ∷ below) long =
     let set = length-set_bits members n below in
     omega (arith, bits, set)
 
--- The bits of a head after the first are read as that head.
-pub take_head-read : (p q : ℕ → Bool) (w tag long : ℕ) (back : List Bool) → p tag ≡ true → tag < 256 → IsPart q p → long < 2 ^ w
-    → take_head (row_of p) w (model.bits_of (binary_length (length (row_of p) - 1)) (rank (row_of p) tag) ++ (set_bits (row_of p) (row_of q) ++ (model.bits_of w long ++ back)))
-    ≡ Some (record { tag = tag; below = row_of q; long = long; bytes = (length (head_bits (row_of p) w tag (row_of q) long) + 7) / 8 })
-unfolding take_head
-take_head-read p q w tag long back passes small part fits =
+-- The bits of a head after the first are read as that head, and the bits after it are left.
+pub take_head_on-read : (p q : ℕ → Bool) (w tag long : ℕ) (back : List Bool) → p tag ≡ true → tag < 256 → IsPart q p → long < 2 ^ w
+    → take_head_on (row_of p) w (model.bits_of (binary_length (length (row_of p) - 1)) (rank (row_of p) tag) ++ (set_bits (row_of p) (row_of q) ++ (model.bits_of w long ++ back)))
+    ≡ Some (record { tag = tag; below = row_of q; long = long; bytes = (length (head_bits (row_of p) w tag (row_of q) long) + 7) / 8 }, back)
+unfolding take_head_on
+take_head_on-read p q w tag long back passes small part fits =
     let members : List ℕ = row_of p in
     let number : ℕ = binary_length (length members - 1) in
     let after : List Bool = model.bits_of w long ++ back in
-    let head : ℕ → ℕ → List ℕ × List Bool → Option Head = λ tag inner below.
-    option_map (λ long. record { tag = tag; below = below.0; long = long.0; bytes = head_bytes (length members) number inner w }) (take_bits w below.1) in
-    let read_on : ℕ × List Bool → Option Head = λ number.
+    let head : ℕ → ℕ → List ℕ × List Bool → Option (Head × List Bool) = λ tag inner below.
+    option_map (λ long. (record { tag = tag; below = below.0; long = long.0; bytes = head_bytes (length members) number inner w }, long.1)) (take_bits w below.1) in
+    let read_on : ℕ × List Bool → Option (Head × List Bool) = λ number.
     option_and_then (λ tag. option_and_then (λ inner. option_and_then (head tag inner.0) (take_below members inner.0 inner.1)) (take_bits 1 number.1)) (slice_get members number.0) in
     let at = rank-member p tag small passes in
     let within : rank members tag < length members = slice_get_within members (rank members tag) tag at in
     ap (option_and_then read_on) (take_bits-model number (rank members tag) (set_bits members (row_of q) ++ after) (number-fits (length members) (rank members tag) (length-row p) within))
     ∙ ap (option_and_then (λ tag. option_and_then (λ inner. option_and_then (head tag inner.0) (take_below members inner.0 inner.1)) (take_bits 1 (set_bits members (row_of q) ++ after)))) at
     ∙ take_set (head tag) p q (row_of q) after refl part
-    ∙ ap (option_map (λ long. record { tag = tag; below = row_of q; long = long.0; bytes = head_bytes (length members) number (inner_of (row_of q)) w })) (take_bits-model w long back fits)
-    ∙ ap (λ n. Some (record { tag = tag; below = row_of q; long = long; bytes = n })) (head_bytes-counted members w tag (row_of q) long)
+    ∙ ap (option_map (λ long. (record { tag = tag; below = row_of q; long = long.0; bytes = head_bytes (length members) number (inner_of (row_of q)) w }, long.1))) (take_bits-model w long back fits)
+    ∙ ap (λ n. Some (record { tag = tag; below = row_of q; long = long; bytes = n }, back)) (head_bytes-counted members w tag (row_of q) long)
+
+-- The bits of a head after the first are read as that head.
+pub take_head-read : (p q : ℕ → Bool) (w tag long : ℕ) (back : List Bool) → p tag ≡ true → tag < 256 → IsPart q p → long < 2 ^ w
+    → take_head (row_of p) w (model.bits_of (binary_length (length (row_of p) - 1)) (rank (row_of p) tag) ++ (set_bits (row_of p) (row_of q) ++ (model.bits_of w long ++ back)))
+    ≡ Some (record { tag = tag; below = row_of q; long = long; bytes = (length (head_bits (row_of p) w tag (row_of q) long) + 7) / 8 })
+unfolding take_head
+take_head-read p q w tag long back passes small part fits = ap (option_map (λ read. read.0)) (take_head_on-read p q w tag long back passes small part fits)

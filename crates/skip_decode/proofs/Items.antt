@@ -33,7 +33,7 @@ unfolding head_bits
 opened members w tag below long = refl
 
 -- the bits of a head after the first, followed by the bits of the bytes after the head
-pub bits_after : List ℕ → ℕ → ℕ → List ℕ → ℕ → List ℕ → List Bool
+unfoldable pub bits_after : List ℕ → ℕ → ℕ → List ℕ → ℕ → List ℕ → List Bool
 bits_after members w tag below long bytes =
     model.bits_of (binary_length (length members - 1)) (rank members tag)
     ++ (set_bits members below ++ (model.bits_of w long

@@ -122,7 +122,7 @@ part_grows members (element_part b) v w more =
     let heads = head_grows members b.tag b.below (size b.content) v w more in
     omega (arith, one, other, heads)
 
-parts_grow : (members : List ℕ) (parts : List Part) (v w : ℕ) → v ≤ w → length (flat_map (part_bytes members v) parts) ≤ length (flat_map (part_bytes members w) parts)
+pub parts_grow : (members : List ℕ) (parts : List Part) (v w : ℕ) → v ≤ w → length (flat_map (part_bytes members v) parts) ≤ length (flat_map (part_bytes members w) parts)
 parts_grow members [] v w more = omega arith
 parts_grow members (part ∷ parts) v w more =
     let one = length-append (part_bytes members v part) (flat_map (part_bytes members v) parts) in

@@ -1,2 +1,11 @@
+pub mod CheckedStream
+pub mod ExactSets
+pub mod FileWalk
+pub mod Fragments
+pub mod Positions
+pub mod Spots
+pub mod StreamEvents
+pub mod StreamHeads
 pub mod StreamOf
+pub mod StreamSteps
 pub mod inside

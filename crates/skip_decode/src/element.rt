@@ -116,7 +116,7 @@ fn take_item<'a>(
 /// Reads the element at the start of `bytes`, and returns it and the bytes after it. `bits` are the bits of its head
 /// after the first.
 #[cycle(elements)]
-#[tactic(auto, unfolding(crate::specs::inside::TreeReading::take_child))]
+#[tactic(auto, unfolding(crate::specs::inside::TreeReading::take_child, crate::specs::inside::TreeReading::take_head))]
 pub(crate) fn take_child<'a>(
     alloc: Global,
     names: &Dictionary,

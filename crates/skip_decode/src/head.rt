@@ -2,7 +2,7 @@
 
 ghost use Rattle.std.specs.Prelude.{◌≡◌, ◌+◌, ◌-◌, ◌<◌, ◌≤◌, ◌^◌, [], None, Some, MatchOption, IfSome, slice_get, length};
 ghost use Rattle.acl_model.specs.Width.{binary_length};
-ghost use Rattle.skip_decode.specs.inside.TreeReading.{take_bits, take_members, take_below, head_bytes, take_head};
+ghost use Rattle.skip_decode.specs.inside.TreeReading.{take_bits, take_members, take_below, head_bytes, take_head_on};
 
 use acl_bits::{BitIn, Row};
 
@@ -47,10 +47,12 @@ pub(crate) fn binary_length(n: usize) -> u32
 }
 
 /// Reads the bits of a head after the first. The parent has these members, and writes lengths in `width` bits.
-#[tactic(auto, unfolding(crate::specs::inside::TreeReading::take_head))]
+#[tactic(auto, unfolding(crate::specs::inside::TreeReading::take_head_on))]
 pub(crate) fn take_head(bits: &mut BitIn<'_>, members: &Row, width: u32) -> Option<Head>
     requires { width ≤ 32 }
-    ensures { result ≡ take_head members.now width bits.old }
+    ensures { MatchOption result
+        (take_head_on members.now width bits.old ≡ None)
+        (λ head. take_head_on members.now width bits.old ≡ Some (head, bits.new)) }
 {
     let count = members.count();
     let number_width = binary_length(usize::from(count.saturating_sub(1)));
@@ -78,17 +80,20 @@ fn member(members: &Row, number: u32) -> Option<u16>
 }
 
 /// Reads the tag set of an element where `inner` is 1. Else the set is empty.
-#[tactic(auto, unfolding(crate::specs::inside::TreeReading::take_below))]
+#[tactic(auto, unfolding(crate::specs::inside::TreeReading::take_below, crate::specs::inside::TreeReading::not_empty))]
 fn take_below(bits: &mut BitIn<'_>, members: &Row, inner: u32) -> Option<Row>
     ensures { MatchOption result
         (take_below members.now inner bits.old ≡ None)
         (λ below. take_below members.now inner bits.old ≡ Some (below, bits.new)) }
 {
-    if inner == 1 {
-        take_members(bits, members)
-    } else {
-        Some(Row::none())
+    if inner != 1 {
+        return Some(Row::none());
     }
+    let below = take_members(bits, members)?;
+    if below.count() == 0 {
+        return None;
+    }
+    Some(below)
 }
 
 /// Reads one bit for each member, and returns the set of those whose bit is 1.
@@ -108,7 +113,7 @@ fn take_members(bits: &mut BitIn<'_>, members: &Row) -> Option<Row>
 }
 
 /// The size of a head in bytes.
-fn head_bytes(members: u16, number_width: u32, inner: u32, width: u32) -> usize
+pub(crate) fn head_bytes(members: u16, number_width: u32, inner: u32, width: u32) -> usize
     requires number { number_width ≤ 32 }
     requires width { width ≤ 32 }
     ensures { result ≡ head_bytes members number_width inner width }

@@ -54,32 +54,45 @@ take_members [] below bits = Some (below, bits)
 take_members (m ∷ members) below bits =
     option_and_then (λ b. take_members members (if nat_eq b.0 1 then with_number below m else below) b.1) (take_bits 1 bits)
 
--- An element's tag set: where the bit `inner` is 1, one bit for each of the parent's members, else the empty set.
+-- the set, if it isn't empty
+unfoldable pub not_empty : List ℕ × List Bool → Option (List ℕ × List Bool)
+not_empty read = if nat_eq (length read.0) 0 then None else Some read
+
+-- An element's tag set. Where the bit `inner` is 1, it has one bit for each of the parent's members, and isn't empty. Else
+-- it is the empty set.
 unfoldable pub take_below : List ℕ → ℕ → List Bool → Option (List ℕ × List Bool)
-take_below members inner bits = if nat_eq inner 1 then take_members members [] bits else Some ([], bits)
+take_below members inner bits =
+    if nat_eq inner 1 then option_and_then not_empty (take_members members [] bits) else Some ([], bits)
 
 -- the size of a head in bytes, with `number` bits for the tag and `w` bits for the length
 abbrev pub head_bytes : ℕ → ℕ → ℕ → ℕ → ℕ
 head_bytes members number inner w = (2 + number + (if nat_eq inner 1 then members else 0) + w + 7) / 8
 
 -- Reads the bits of a head after the first: the tag's index in the parent's members, a bit that is 1 where a tag set
--- follows, that set, and the content's length in w bits.
-unfoldable pub take_head : List ℕ → ℕ → List Bool → Option Head
-take_head members w bits =
+-- follows, that set, and the content's length in w bits. Returns the bits after it too.
+unfoldable pub take_head_on : List ℕ → ℕ → List Bool → Option (Head × List Bool)
+take_head_on members w bits =
     option_and_then (λ number.
     option_and_then (λ tag.
     option_and_then (λ inner.
     option_and_then (λ below.
-    option_map (λ long. record {
-      tag = tag;
-      below = below.0;
-      long = long.0;
-      bytes = head_bytes (length members) (binary_length (length members - 1)) inner.0 w;
-    }) (take_bits w below.1))
+    option_map (λ long. (
+      record {
+        tag = tag;
+        below = below.0;
+        long = long.0;
+        bytes = head_bytes (length members) (binary_length (length members - 1)) inner.0 w;
+      },
+      long.1,
+    )) (take_bits w below.1))
     (take_below members inner.0 inner.1))
     (take_bits 1 number.1))
     (slice_get members number.0))
     (take_bits (binary_length (length members - 1)) bits)
+
+-- the head alone
+unfoldable pub take_head : List ℕ → ℕ → List Bool → Option Head
+take_head members w bits = option_map (λ read. read.0) (take_head_on members w bits)
 
 -- ---- elements
 

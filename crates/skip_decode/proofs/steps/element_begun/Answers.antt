@@ -1,0 +1,8 @@
+use Rattle.skip_decode.proofs.MoveLaws.{begun-moves}
+use Rattle.skip_decode.specs.inside.Moves.{IsHeadIn}
+use Rattle.skip_decode.proofs.steps.element_begun.Goals as goal
+
+pub returns-clause-moves : goal.returns-clause-moves
+returns-clause-moves g c =
+    let in_head : IsHeadIn c.args.parent.now.below c.in-Some.head = rw c.in-Some.is at c.in_ok-head.ensures.fits in
+    begun-moves c.args.depth c.args.around c.args.parent.now c.args.place c.in-Some.head c.begun_with.result c.requires.rises in_head c.begun_with.ensures

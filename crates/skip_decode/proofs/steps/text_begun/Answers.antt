@@ -1,0 +1,8 @@
+use Rattle.std.proofs.Common.{◌+◌, ◌≤◌, arith}
+use Rattle.skip_decode.proofs.MoveLaws.{some-so}
+use Rattle.skip_decode.proofs.steps.text_begun.Goals as goal
+
+pub returns-clause-moves : goal.returns-clause-moves
+returns-clause-moves g c =
+    let inside : c.args.place + 4 + c.in-Some.long ≤ c.args.end = rw c.in-Some.is at c.in_ok-long.ensures.inside in
+    some-so c.in_ok-step.step (λ step moves. moves c.args.end c.args.place inside (omega arith) (omega arith)) c.in_ok-step.ensures.moves

@@ -1,0 +1,174 @@
+//! The walk over files in memory. Memory is ample.
+
+ghost use Rattle.std.specs.Prelude.{◌≡◌, true, None};
+ghost use Rattle.acl_model.specs.declared.document.Doc.{Doc};
+
+use super::*;
+use acl_bits::{Piece, Row};
+use acl_model::{Doc, Element, Item, Name, Sequence, is_document};
+use acl_outside::{ReadFault, SureStore};
+use acl_walk::{Event, Walk};
+use aes_block::Key128;
+use arrayvec::ArrayVec;
+use fragment_open::Opener;
+use merkle_chunks::{Digest, Header, key_check, root_of, write_table};
+use position_cipher::lock_fragment;
+use skip_encode::encode_file;
+use sqlite_items::{Boxed, Items};
+use std::alloc::{AllocError, Global};
+use std::process::Abort;
+use std::test::Fail;
+use tag_dictionary::Dictionary;
+
+const KEY: [u8; 16] = [7; 16];
+
+/// An element with one item, or without any.
+fn element(alloc: Global, name: &[u8], item: Option<Item>) -> Result<Item, AllocError> {
+    let mut items = Vec::new(alloc);
+    if let Some(item) = item {
+        items.push(item)?;
+    }
+    let element = Element {
+        name: Name::from_slice(alloc, name)?,
+        attributes: Sequence::new(alloc),
+        items: Items::from_vec(items),
+    };
+    Ok(Item::Child(Boxed::new(alloc, element)?))
+}
+
+/// `(r`, `(x`, `-` and 10,240 bytes `z`, `)x`, `(y`, `-1`, `)y`, `)r`.
+fn long_document(alloc: Global) -> Result<Doc, AllocError> {
+    let mut long = Vec::new(alloc);
+    long.resize(10_240, b'z')?;
+    let text = Item::Text(acl_model::Bytes::from_vec(long));
+    let one = Item::Text(acl_model::Bytes::from_slice(alloc, b"1")?);
+    let mut items = Vec::new(alloc);
+    items.push(element(alloc, b"x", Some(text))?)?;
+    items.push(element(alloc, b"y", Some(one))?)?;
+    Ok(Doc {
+        root: Element {
+            name: Name::from_slice(alloc, b"r")?,
+            attributes: Sequence::new(alloc),
+            items: Items::from_vec(items),
+        },
+    })
+}
+
+/// A file of the element `a` with the text `hi`, but for the first bit of its head, which is 0; and
+/// its root.
+fn wrong_head(alloc: Global) -> Result<(Vec<u8>, Digest), AllocError> {
+    let header = Header {
+        tree: 9,
+        dictionary: 4,
+        tags: 1,
+        depth: 1,
+        check: key_check(&KEY),
+    };
+    let mut fragment = [0; 256];
+    fragment[..13].copy_from_slice(b"\0\x01\x01a\x20\0\0\0\0\0\x02hi");
+    lock_fragment(&Key128::new(KEY), 0, &mut fragment);
+    let mut table = [0; 32];
+    let top = write_table(&fragment, &mut table);
+    let prefix = header.write();
+    let mut bytes = Vec::new(alloc);
+    bytes.extend_from_slice(&prefix)?;
+    bytes.extend_from_slice(&fragment)?;
+    bytes.extend_from_slice(&table)?;
+    Ok((bytes, root_of(&prefix, &top)))
+}
+
+/// A walk over a file with this root, whose dictionary section is this one.
+fn walk_over<'a>(
+    rt: &impl Abort,
+    alloc: Global,
+    store: &'a mut SureStore,
+    root: Digest,
+    section: &[u8],
+) -> SkipWalk<'a, SureStore> {
+    let opener = Opener::start(store, root, KEY).expect(rt, "the file");
+    let names = Dictionary::read(alloc, section).expect(rt, "the dictionary");
+    assert!(rt; names.names().len() == usize::from(opener.header().tags));
+    SkipWalk::over(opener, names)
+}
+
+/// Takes the event at a spot, and checks that it is this one.
+fn expect<W: Walk>(rt: &impl Abort, walk: &mut W, spot: &mut W::Spot, want: &Event)
+    requires made { W.made (W.fixed walk.old) spot.old }
+    requires placed { W.broken walk.old ≡ None → (d : Doc) → W.is_origin (W.fixed walk.old) d
+        → W.sound walk.old d ≡ true → W.is_place (W.fixed walk.old) d spot.old }
+    ensures made { W.made (W.fixed walk.new) spot.new }
+    ensures placed { W.broken walk.new ≡ None → (d : Doc) → W.is_origin (W.fixed walk.new) d
+        → W.sound walk.new d ≡ true → W.is_place (W.fixed walk.new) d spot.new }
+{
+    match walk.next(spot) {
+        Ok(event) => assert!(rt; event == *want, "{event:?}"),
+        Err(_) => panic!(rt; "a refusal"),
+    }
+}
+
+// The text of x is passed, which has 40 of the file's 41 fragments.
+#[test]
+fn a_long_text_is_passed(rt: HostRuntime) -> Result<(), Fail> {
+    let alloc = rt.alloc();
+    let doc = long_document(alloc)?;
+    assert!(rt; is_document(&doc));
+    let file = encode_file(alloc, &doc, KEY).expect(&rt, "a file");
+    let mut below = Row::none();
+    below.put(1);
+    below.put(2);
+    let mut one = ArrayVec::new();
+    one.try_extend_from_slice(b"1").unwrap();
+    let mut store = SureStore::new(file.bytes.into_vec());
+    let mut walk = walk_over(&rt, alloc, &mut store, file.root, b"\0\x03\x01r\x01x\x01y");
+    let mut spot = walk.new_spot(alloc)?;
+    let none = Row::none();
+    expect(&rt, &mut walk, &mut spot, &Event::Begin { tag: 0, below });
+    expect(&rt, &mut walk, &mut spot, &Event::HeadEnd);
+    expect(
+        &rt,
+        &mut walk,
+        &mut spot,
+        &Event::Begin {
+            tag: 1,
+            below: none,
+        },
+    );
+    walk.pass(&mut spot);
+    expect(&rt, &mut walk, &mut spot, &Event::Finish { tag: 1 });
+    expect(
+        &rt,
+        &mut walk,
+        &mut spot,
+        &Event::Begin {
+            tag: 2,
+            below: none,
+        },
+    );
+    expect(&rt, &mut walk, &mut spot, &Event::HeadEnd);
+    let text = Event::Text(Piece {
+        bytes: one,
+        last: true,
+    });
+    expect(&rt, &mut walk, &mut spot, &text);
+    expect(&rt, &mut walk, &mut spot, &Event::Finish { tag: 2 });
+    expect(&rt, &mut walk, &mut spot, &Event::Finish { tag: 0 });
+    expect(&rt, &mut walk, &mut spot, &Event::End);
+    assert_eq!(rt; walk.taken(), 10);
+    assert_eq!(rt; walk.refusal(), None);
+    Ok(())
+}
+
+// The digests are right, but a head begins with 0.
+#[test]
+fn a_wrong_head_is_refused_and_the_refusal_stays(rt: HostRuntime) -> Result<(), Fail> {
+    let alloc = rt.alloc();
+    let (bytes, root) = wrong_head(alloc)?;
+    let mut store = SureStore::new(bytes);
+    let mut walk = walk_over(&rt, alloc, &mut store, root, b"\0\x01\x01a");
+    let mut spot = walk.new_spot(alloc)?;
+    assert_eq!(rt; walk.next(&mut spot), Err(ReadFault::BadIndex));
+    assert_eq!(rt; walk.next(&mut spot), Err(ReadFault::BadIndex));
+    assert_eq!(rt; walk.refusal(), Some(ReadFault::BadIndex));
+    assert_eq!(rt; walk.taken(), 2);
+    Ok(())
+}
