@@ -91,7 +91,7 @@ if stands; then
     echo "This is the proved program, crates/acl_cli/out/acl_cli."
     each_step run_proved
 elif command -v rt >/dev/null; then
-    echo "There is no proved program as new as its sources. So this shows an unproved build, which takes about half a minute to make."
+    echo "There is no proved program as new as its sources. So this shows an unproved build, which takes a minute or two to make."
     run_unproved
 else
     echo "There is no proved program as new as its sources, and rt is not on the path to make one. It comes with the Rattle kit."
