@@ -256,6 +256,7 @@ def reasons(trials):
         ("digits", f"document {digits}\nseal {2 * digits}\n".encode(), 1, f"{keys}\ndigits:1: 30 digits in place of 32\n"),
         ("word", f"Document {digits}\ndocument {digits}\n".encode(), 1,
          f"{keys}\nword:1: the line begins with the word 'document', then a space and 32 hexadecimal digits\n"),
+        ("spelled", b"License 1\n", 1, f"{body}\nspelled:1: the first line is 'licence 1', and nothing else\n    License 1\n"),
         ("prose", b"what is this?\n", 1, "neither keys, a licence body, a licence, a document nor an encrypted file\n"),
     ]:
         trials.put(name, content)

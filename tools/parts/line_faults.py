@@ -53,7 +53,7 @@ def kind_of(data):
         return "keys"
     if first.startswith(b"seal"):
         return "licence" if len(lines) > 1 else "keys"
-    if first.startswith((b"licence", b"root ", b"user ")) or b"end" in words:
+    if first.lower().startswith((b"licence", b"license", b"+ ")) or words & {b"licence", b"root", b"user", b"end"}:
         return "body"
     return "document" if first[:1] in (b"(", b"A", b"?") else "unknown"
 
