@@ -86,7 +86,13 @@ refused() {
     same "$1: what is said" "$made/error" <(echo "$3")
     same "$1: what is shown" "$made/out" nothing.out
 }
-refused "a query without a slash" 26 "read.sh: refused: 26 BadQuery" read_view "$keys" "the store/a ward.acl" "Dr Ana.licence" --query Act
+for option in "--query //Act[1]" --query=//Act[1]; do
+    # shellcheck disable=SC2086
+    try "a query with a position" 26 "read.sh: refused: 26 BadQuery" read_view "$keys" "the store/a ward.acl" "Dr Ana.licence" $option
+    same "a query with a position, what is said" "$made/error" <(printf '%s\n' "the query: positions such as [1] aren't supported" \
+        "    //Act[1]" "          ^" "read.sh: refused: 26 BadQuery")
+    same "a query with a position, what is shown" "$made/out" nothing.out
+done
 refused "a word too many" 2 "read.sh: refused: 2 Usage" read_view "$keys" "the store/a ward.acl" "Dr Ana.licence" more
 refused "no keys" 3 "read.sh: refused: 3 KeysFault" read_view nowhere "the store/a ward.acl" "Dr Ana.licence"
 refused "no store" 34 "read.sh: refused: 34 StoreFault" read_view "$keys" nowhere "Dr Ana.licence"
@@ -125,12 +131,14 @@ begin
 body ana.rules "licence 1" "user Ana" "+ acts Act"
 try "a path without a slash" 21 "acl: 21 BadRule line=4 at=0" publish "$keys" "a ward.xml" ana.rules
 try "a path without a slash, by its file" 21 "acl: ana.rules: " publish "$keys" "a ward.xml" ana.rules
+try "a path without a slash, why" 21 "ana.rules:4: a path begins with / or //" publish "$keys" "a ward.xml" ana.rules
 try "keys that anybody can read" 21 "publish.sh: warning: $PWD/keys: any user of this machine" publish "$PWD/keys" "a ward.xml" ana.rules
 left "a path without a slash" "a ward.xml" ana.rules
 body ana.rules "user Ana" "+ acts //Act"
 try "a body without its first line" 22 "acl: 22 BadLicence line=1" publish "$keys" "a ward.xml" ana.rules
 body ana.rules "licence 1" "user Ana" "+ acts //Act"
 try "wrong keys" 25 "acl: 25 BadKeys line=1" publish ana.rules "a ward.xml" ana.rules
+try "wrong keys, why" 25 "ana.rules: a licence body; preview takes it as RULES" publish ana.rules "a ward.xml" ana.rules
 try "no keys" 3 "acl: 3 KeysFault" publish nowhere "a ward.xml" ana.rules
 head -c 100 hospital.xml >"$folder/cut.xml"
 try "XML that isn't well formed" 1 "xml.sh: ./cut.xml isn't well formed" publish "$keys" ./cut.xml ana.rules

@@ -1,7 +1,8 @@
 #!/usr/bin/env python3
-"""Tries tools/check_rules.py, tools/inspect.py and tools/explain_names.py: what they write and their status, on small files.
+"""Tries tools/check_rules.py, tools/inspect.py, tools/explain_names.py and tools/why.py: what they write and their status, on small files.
 
 What is expected is worked by hand from docs/FORMATS.md and the files of examples/; only check_rules.py runs the built program.
+For why.py the rest is in try_mistakes.py.
 """
 import subprocess
 import sys
@@ -224,10 +225,56 @@ def paths(trials):
                   (2, "", "explain_names.py: nowhere: No such file or directory\n"))
 
 
+def reasons(trials):
+    """why.py: files of each kind, the line and the byte that are refused, and no line of keys."""
+    kinds = {
+        "a keys": "keys; they are given as KEYS",
+        "a physician.rules": "a licence body; preview takes it as RULES, and seal reads it from standard input",
+        "a physician.licence": "a sealed licence; view and explain read it from standard input",
+        "a hospital.esis": "lines of a document; encode and preview read them from standard input",
+        "a hospital.file": "an encrypted file, which acl encode writes; view and explain take it as STORE",
+    }
+    for name in kinds:
+        trials.put(name, (EXAMPLES / name.removeprefix("a ")).read_bytes())
+    trials.expect("good files", trials.run("why.py", *kinds), (0, "".join(f"{name}: {kind}\n" for name, kind in kinds.items()), ""))
+    body, licence, keys = (kinds[name] for name in ("a physician.rules", "a physician.licence", "a keys"))
+    digits, rule = "c0ffee" * 5, "+ own //Folder[Act and Admin]"
+    start, path = 70 * "x", "and isn't supported: write two predicates, as in //a[b][c]"
+    for name, content, status, told in [
+        ("ana.rules", body_of(rule), 1, f"{body}\nana.rules:4: {path}\n    {rule}\n                       ^\n"),
+        ("ana.licence", b"seal " + 64 * b"0" + b"\n" + body_of(rule), 1,
+         f"{licence}\nana.licence:5: {path}\n    {rule}\n                       ^\n"),
+        ("long.rules", body_of(f"+ own /{start}/@a"), 1,
+         f"{body}\nlong.rules:4: an attribute: a path selects elements, and all their attributes with them\n"
+         f"    ...{59 * 'x'}/@a\n{67 * ' '}^\n"),
+        ("control.rules", body_of("+ own /a\x1b[2J"), 1,
+         f"{body}\ncontrol.rules:4: this can't stand there\n    + own /a\\x1b[2J\n            ^\n"),
+        ("quoted.rules", body_of("+ own /a[b='USER']"), 0,
+         f"{body}\nquoted.rules:4: warning: USER in quotes is a text, and not the user's name\n"
+         f"    + own /a[b='USER']\n               ^\n"),
+        ("no end", body_of("+ own /a")[:-4], 1, f"{body}\nno end:5: the last line 'end' is missing\n"),
+        ("digits", f"document {digits}\nseal {2 * digits}\n".encode(), 1, f"{keys}\ndigits:1: 30 digits in place of 32\n"),
+        ("word", f"Document {digits}\ndocument {digits}\n".encode(), 1,
+         f"{keys}\nword:1: the line begins with the word 'document', then a space and 32 hexadecimal digits\n"),
+        ("spelled", b"License 1\n", 1, f"{body}\nspelled:1: the first line is 'licence 1', and nothing else\n    License 1\n"),
+        ("prose", b"what is this?\n", 1, "neither keys, a licence body, a licence, a document nor an encrypted file\n"),
+    ]:
+        trials.put(name, content)
+        made = trials.run("why.py", name)
+        trials.expect(name, made, (status, f"{name}: {told}", ""))
+        trials.expect(f"{name}: no key", digits in made[1], False)
+    trials.expect("a query", trials.run("why.py", "--query", "//a[1]"),
+                  (1, "the query: positions such as [1] aren't supported\n    //a[1]\n        ^\n", ""))
+    trials.expect("a good query", trials.run("why.py", "--query", "//a"), (0, "the query: nothing is wrong with its form\n", ""))
+    trials.expect("another name", trials.run("why.py", "--name", "b\x1b", "a keys"), (0, f"b\\x1b: {keys}\n", ""))
+    trials.expect("no file", trials.run("why.py", "no\nthing"), (2, "", "why.py: no\\x0athing: No such file or directory\n"))
+    trials.expect("no words", trials.run("why.py")[0], 2)
+
+
 def main():
     with tempfile.TemporaryDirectory() as folder:
         trials = Trials(folder)
-        for part in (paths, looks, rules):
+        for part in (paths, looks, rules, reasons):
             part(trials)
     print(f"{trials.count} runs of the tools were tried, {trials.wrong} were not as expected.")
     return 1 if trials.wrong else 0

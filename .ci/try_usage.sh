@@ -17,24 +17,31 @@ try() {
 }
 
 usage="acl: 2 Usage"
-for piece in "Usage: acl preview [OPTIONS] <RULES>" "Usage: acl encode <KEYS>" "Usage: acl seal <KEYS>" \
-    "Usage: acl view [OPTIONS] <KEYS> <STORE>" "Usage: acl explain <KEYS> <STORE>" "Usage: acl sample <N>"; do
+for piece in "Usage: acl preview <RULES> [OPTIONS]" "Usage: acl encode <KEYS>" "Usage: acl seal <KEYS>" \
+    "Usage: acl view <KEYS> <STORE> [OPTIONS]" "Usage: acl explain <KEYS> <STORE>" "Usage: acl sample <N>"; do
     try "$usage" "" "$piece"
     try "$usage" "acl: unexpected argument 'fly'" "$piece" fly high
-    try "$usage" "acl: unexpected argument '--help'" "$piece" --help
+    try "$usage" "Give each reader the part of an XML document that a licence allows" "$piece" --help
 done
 try "$usage" "acl: an argument is missing after 'preview'" "--explain" preview
 try "$usage" "acl: an argument is missing after '--query'" "--query <P>" preview physician.rules --query
-try "$usage" "acl: unexpected argument '--explain'" "--query <P>" preview physician.rules --query /a --explain
-try "$usage" "acl: an argument is missing after 'keys'" "Usage: acl view [OPTIONS] <KEYS> <STORE>" view keys
-try "$usage" "acl: unexpected argument 'doctor.licence'" "acl view my.keys my.file <my.licence" view keys hospital.file doctor.licence
-try "$usage" "acl: unexpected argument 'more'" "Usage: acl seal <KEYS>" seal keys more
+try "$usage" "acl: unexpected argument '--explain'; --query and --explain are given at most once, and not together" "--query <P>" \
+    preview physician.rules --query /a --explain
+try "$usage" "acl: an argument is missing after 'keys'" "Usage: acl view <KEYS> <STORE> [OPTIONS]" view keys
+try "$usage" "acl: unexpected argument 'doctor.licence'; the input is read from standard input: write < before its file" \
+    "acl view my.keys my.file <my.licence" view keys hospital.file doctor.licence
+try "$usage" "acl: unexpected argument 'more'; the input is read from standard input: write < before its file" "Usage: acl seal <KEYS>" seal keys more
+try "$usage" "acl: unexpected argument 'keys'; options come after the command and its files" "" view --query /a keys hospital.file
+try "$usage" "Show an encrypted document's view under a sealed licence" "Usage: acl view" view --help
 try "$usage" "acl: unexpected argument '0'" "from 1 to 20000" sample 0
 try "acl: 3 KeysFault" "acl: nowhere.rules: not found, or not a readable file" "" preview nowhere.rules
 try "acl: 3 KeysFault" "acl: nowhere: not found, or not a readable file" "" view nowhere hospital.file
-try "acl: 25 BadKeys line=1" "acl: hospital.file: expected 'document' and 32 hexadecimal digits" "" view hospital.file keys
-try "acl: 22 BadLicence line=1" "acl: standard input: expected the seal line, which acl seal writes before the body" "" view keys hospital.file
-try "acl: 10 BadLine line=1" "acl: standard input: not a line of a document; examples/xml.sh converts XML files" "" encode keys
-try "acl: 21 BadRule line=4 at=19" "acl: misspelled.rules: the path is invalid after its first 19 bytes, or ends too early" "" preview misspelled.rules
+try "acl: 25 BadKeys line=1" "acl: hospital.file: expected 'document', a space and 32 hexadecimal digits; tools/why.py FILE says more" "" view hospital.file keys
+try "acl: 22 BadLicence line=1" "acl: standard input: expected the seal line, which acl seal writes before the body; tools/why.py FILE says more" \
+    "" view keys hospital.file
+try "acl: 10 BadLine line=1" "acl: standard input: not a line of a document; tools/why.py FILE says why, and examples/xml.sh converts XML files" \
+    "" encode keys
+try "acl: 21 BadRule line=4 at=19" "acl: misspelled.rules: the path is invalid after its first 19 bytes, or ends too early; tools/why.py FILE shows the place" \
+    "" preview misspelled.rules
 [ "$wrong" -eq 0 ] && echo "A faulty command line gets the wrong argument and the page of its command, and a refusal its cause."
 exit "$wrong"

@@ -93,8 +93,18 @@ make_beside() {
     chmod "$(printf '%o' $((0666 & ~$(umask))))" "$new" || exit "$usage_status"
 }
 
+# Shows the line that `acl` refuses with the status $2, and why: of the keys, or of the body $1. Without python3 it
+# shows nothing.
+show_why() {
+    command -v python3 >/dev/null || return
+    case $2 in
+        21 | 22 | 23 | 24) python3 "$top/tools/why.py" --name "$1" "$made/body" >&2 ;;
+        25) python3 "$top/tools/why.py" "$keys" >&2 ;;
+    esac
+}
+
 # Runs `acl` with the arguments after $1, which is the file that the run is about. If `acl` refuses, it prints the
-# refusal and ends the script.
+# refusal, shows why, and ends the script.
 step() {
     "$acl" "${@:2}" 2>"$made/said"
     local status=$?
@@ -103,6 +113,7 @@ step() {
     said=$(tr -d '\0' <"$made/said")
     echo "publish.sh: $1: acl $2 ended with status $status" >&2
     echo "${said//"$made/body"/"$1"}" >&2
+    show_why "$1" "$status"
     exit "$status"
 }
 

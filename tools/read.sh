@@ -12,7 +12,8 @@
 # It needs `acl` on the path, or its path in ACL, and `python3`.
 #
 # Of a refusal by `acl` only the number and the name are printed, which docs/FORMATS.md lists, and the number is the
-# status. The rest of what `acl` says is not for readers: for a wrong seal it prints the right one.
+# status. The rest of what `acl` says is not for readers: for a wrong seal it prints the right one. A path P that is
+# refused is shown with a mark under the place and the reason, since it is the reader's own.
 #
 # Status 0: the view is on standard output. 1: the view is empty, or FILE is of another document; nothing is written. 2:
 # the arguments are not as above, or LICENCE or FILE can't be read. 69: a tool is missing. Any other status is that of
@@ -50,6 +51,11 @@ trap 'exit 129' HUP
 
 "$acl" view "$1" "$2" "${words[@]}" <"$3" >"$made/view" 2>"$made/said"
 status=$?
+readonly bad_query_status=26
+if [ "$status" -eq "$bad_query_status" ]; then
+    # The last argument is P, or `--query=` and P.
+    "$top/tools/why.py" --query="${words[-1]#--query=}" >&2
+fi
 if [ "$status" -ne 0 ]; then
     name=$(head -n 1 "$made/said" | sed -n 's/^acl: [0-9]* \([A-Za-z]*\).*/ \1/p')
     fail "$status" "refused: $status$name"

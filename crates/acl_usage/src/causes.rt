@@ -12,12 +12,21 @@ enum Given {
     /// The source of the rules: the file RULES, or else standard input.
     Rules,
     Input,
+    /// The keys, or standard input: which of them isn't known.
+    KeysOrInput,
     Query,
+    /// The rules together, or the query.
+    Paths,
     Store,
     Output,
 }
 
-const NO_LINE: &str = "not a line of a document; examples/xml.sh converts XML files";
+const NO_LINE: &str =
+    "not a line of a document; tools/why.py FILE says why, and examples/xml.sh converts XML files";
+
+const NO_KIND: &str =
+    "documents have no lines of this kind; tools/why.py FILE says why, and examples/xml.sh converts XML \
+    files";
 
 const UNBALANCED: &str = "the line is not allowed here, or the end of an element is missing";
 
@@ -34,22 +43,32 @@ const WRONG_ROOT: &str = "the licence is for another file, or this one was chang
 
 const NOT_READABLE: &str = "not found, or not a readable file";
 
+const TOO_MANY_STATES: &str = "more than 256 steps, 256 tests in predicates or 64 predicates";
+
+const LONGEST_DOCUMENT: u32 = 33_554_432;
+
 const BAD_SEAL: &str = "the licence was changed since it was sealed, or sealed with other keys";
+
+const BODY_RULE: &str =
+    "expected a rule ('+' or '-', a unique id and a path, with one space between them), or 'end' as \
+    the last line; tools/why.py FILE says more";
 
 /// What this line of a licence body must be. Lines are counted from 1.
 fn body_line(line: u32) -> &'static str {
     match line {
-        1 => "expected the line 'licence 1', without a seal, spaces or a carriage return",
+        1 =>
+            "expected the line 'licence 1', without a seal or anything else; tools/why.py FILE says more",
         2 => "expected the line that acl encode prints: 'root' and 64 hexadecimal digits",
         3 => "expected 'user' and a name",
-        _ => "expected a rule ('+' or '-', a unique id and a path), or 'end' as the last line",
+        _ => BODY_RULE,
     }
 }
 
 /// What this line of a sealed licence must be.
 fn licence_line(line: u32) -> &'static str {
     match line {
-        0 | 1 => "expected the seal line, which acl seal writes before the body",
+        0 | 1 =>
+            "expected the seal line, which acl seal writes before the body; tools/why.py FILE says more",
         _ => body_line(line - 1),
     }
 }
@@ -57,8 +76,8 @@ fn licence_line(line: u32) -> &'static str {
 /// What this line of the keys must be. Lines are counted from 1.
 fn keys_line(line: u32) -> &'static str {
     match line {
-        1 => "expected 'document' and 32 hexadecimal digits",
-        2 => "expected 'seal' and 64 hexadecimal digits",
+        1 => "expected 'document', a space and 32 hexadecimal digits; tools/why.py FILE says more",
+        2 => "expected 'seal', a space and 64 hexadecimal digits; tools/why.py FILE says more",
         _ => "something follows the two lines of the keys",
     }
 }
@@ -71,14 +90,27 @@ fn in_licence(line: u32, input: Input) -> (Given, &'static str) {
     }
 }
 
+/// What is longer than this limit, and how long it may be.
+fn too_long(limit: u32, input: Input) -> (Given, &'static str) {
+    if limit == LONGEST_DOCUMENT {
+        return (Given::Input, "longer than 33,554,432 bytes");
+    }
+    let given = match input {
+        Input::Document | Input::Nothing => Given::Keys,
+        Input::Body | Input::Licence => Given::KeysOrInput,
+    };
+    (given, "longer than 131,072 bytes")
+}
+
 /// What is at fault, and the cause. `None` where the outcome's name says it all, or where the fault is in a path.
 fn cause(outcome: Outcome, input: Input) -> Option<(Given, &'static str)> {
     Some(match outcome {
         Outcome::Done | Outcome::NoMemory | Outcome::Usage | Outcome::NoteFault => return None,
-        Outcome::InputTooLong { .. } | Outcome::TooManyStates => return None,
         Outcome::BadRule { .. } | Outcome::BadQuery { .. } | Outcome::Stopped { .. } => return None,
+        Outcome::InputTooLong { limit } => too_long(limit, input),
+        Outcome::TooManyStates => (Given::Paths, TOO_MANY_STATES),
         Outcome::BadLine { .. } => (Given::Input, NO_LINE),
-        Outcome::Unsupported { .. } => (Given::Input, "lines of this kind are not supported"),
+        Outcome::Unsupported { .. } => (Given::Input, NO_KIND),
         Outcome::Unbalanced { .. } => (Given::Input, UNBALANCED),
         Outcome::NoRoot => (Given::Input, "the document has no element"),
         Outcome::SecondRoot { .. } => (Given::Input, SECOND_ROOT),
@@ -110,20 +142,24 @@ fn name_of(given: Given, files: Files<'_>) -> &str {
         Given::Keys => (files.keys.or(files.rules), "the keys"),
         Given::Rules => (files.rules, "standard input"),
         Given::Input => (None, "standard input"),
+        Given::KeysOrInput => (None, "the keys or standard input"),
         Given::Query => (None, "the query"),
+        Given::Paths => (None, "the rules together, or the query"),
         Given::Store => (files.store, "the store"),
         Given::Output => (None, "standard output"),
     };
     named.unwrap_or(unnamed)
 }
 
-/// The line for an invalid path, of which the first `at` bytes begin some path.
-fn path_line(alloc: Global, name: &str, at: u32) -> Result<String, AllocError> {
+/// The line for an invalid path, of which the first `at` bytes begin some path. `words` are those after which
+/// `tools/why.py` shows the place.
+fn path_line(alloc: Global, name: &str, at: u32, words: &str) -> Result<String, AllocError> {
     if at == 0 {
         format!(in alloc; "acl: {name}: a path must begin with / or //\n")
     } else {
         format!(in alloc;
-            "acl: {name}: the path is invalid after its first {at} bytes, or ends too early\n"
+            "acl: {name}: the path is invalid after its first {at} bytes, or ends too early; \
+            tools/why.py {words} shows the place\n"
         )
     }
 }
@@ -131,8 +167,18 @@ fn path_line(alloc: Global, name: &str, at: u32) -> Result<String, AllocError> {
 /// The line that explains an outcome of a run with these files. Empty where the outcome's name says it all.
 fn line_for(alloc: Global, files: Files<'_>, outcome: Outcome) -> Result<String, AllocError> {
     match (outcome, cause(outcome, files.input)) {
-        (Outcome::BadRule { at, .. }, _) => path_line(alloc, name_of(Given::Rules, files), at),
-        (Outcome::BadQuery { at }, _) => path_line(alloc, name_of(Given::Query, files), at),
+        (Outcome::BadRule { at, .. }, _) => path_line(
+            alloc,
+            name_of(Given::Rules, files),
+            at,
+            "FILE",
+        ),
+        (Outcome::BadQuery { at }, _) => path_line(
+            alloc,
+            name_of(Given::Query, files),
+            at,
+            "--query P",
+        ),
         (_, Some((given, cause))) => {
             format!(in alloc; "acl: {}: {cause}\n", name_of(given, files))
         }

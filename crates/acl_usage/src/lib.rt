@@ -1,17 +1,19 @@
 //! The text that the program writes to standard error after the line of an outcome. For a faulty command line it names
-//! the wrong argument and shows the help page of the command, or of all commands where the first argument names none.
-//! For another outcome it names the file or stream that is at fault, and the cause.
+//! the wrong argument, says what to do about it, and shows the help page of the command, or of all commands where the
+//! first argument names none. For another outcome it names the file or stream that is at fault, and the cause.
 //!
 //! `clap` renders the pages and parses nothing: `acl_words` defines the command lines. In names, `words` are the
 //! arguments without the program's name.
 #![tactic(auto)]
 
 mod causes;
+mod hints;
 
 use acl_outcome::Outcome;
 use acl_words::refused_word;
 use causes::cause_line;
 use clap::{Arg, ArgAction, Command};
+use hints::{asks_for_help, hint_for};
 use std::alloc::{AllocError, Global};
 
 #[cfg(test)]
@@ -65,6 +67,7 @@ fn preview(alloc: Global) -> Result<Command<'static>, AllocError> {
         --query and --explain cannot be used together.\n\n\
         Example: acl preview examples/doctor.rules <examples/hospital.esis",
     )?
+    .override_usage("acl preview <RULES> [OPTIONS]")
     .arg(operand(alloc, "RULES", "File with the licence body"))?
     .arg(query(alloc))?
     .arg(explanation(alloc))
@@ -106,6 +109,7 @@ fn view(alloc: Global) -> Result<Command<'static>, AllocError> {
         encrypted file is checked against the root in the licence before anything is written.\n\n\
         Example: acl view my.keys my.file <my.licence",
     )?
+    .override_usage("acl view <KEYS> <STORE> [OPTIONS]")
     .arg(operand(alloc, "KEYS", "File with the keys"))?
     .arg(operand(alloc, "STORE", "The encrypted file"))?
     .arg(query(alloc))
@@ -199,7 +203,8 @@ fn page(alloc: Global, words: &[String]) -> Result<String, AllocError> {
     }
 }
 
-/// Appends which argument is wrong, or that one is missing. Appends nothing where there are no arguments.
+/// Appends which argument is wrong and what to do about it, or that one is missing. Appends nothing where there are no
+/// arguments.
 fn add_fault(text: &mut String, words: &[String]) -> Result<(), AllocError> {
     let Some(at) = refused_word(words) else {
         return Ok(());
@@ -208,7 +213,9 @@ fn add_fault(text: &mut String, words: &[String]) -> Result<(), AllocError> {
         (Some(word), _) => {
             text.push_str("acl: unexpected argument '")?;
             text.push_str(word.as_str())?;
-            text.push_str("'\n\n")
+            text.push_str("'")?;
+            text.push_str(hint_for(words, word.as_str()))?;
+            text.push_str("\n\n")
         }
         (None, Some(last)) => {
             text.push_str("acl: an argument is missing after '")?;
@@ -222,7 +229,9 @@ fn add_fault(text: &mut String, words: &[String]) -> Result<(), AllocError> {
 /// The text for a faulty command line.
 fn usage(alloc: Global, words: &[String]) -> Result<String, AllocError> {
     let mut text = String::new(alloc);
-    add_fault(&mut text, words)?;
+    if !asks_for_help(words) {
+        add_fault(&mut text, words)?;
+    }
     let page = page(alloc, words)?;
     text.push_str(page.as_str())?;
     Ok(text)

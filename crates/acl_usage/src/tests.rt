@@ -27,14 +27,23 @@ fn has_pieces(alloc: Global, row: &str) -> Result<bool, Fail> {
 }
 
 const PAGES: &str =
-    "--help|Usage: acl <COMMAND>|Usage: acl preview [OPTIONS] <RULES>|Usage: acl encode <KEYS>
---help|Usage: acl seal <KEYS>|Usage: acl view [OPTIONS] <KEYS> <STORE>|Usage: acl explain <KEYS> <STORE>
---help|Usage: acl sample <N>|docs/FORMATS.md|acl: unexpected argument '--help'
+    "--help|Usage: acl <COMMAND>|Usage: acl preview <RULES> [OPTIONS]|Usage: acl encode <KEYS>
+--help|Usage: acl seal <KEYS>|Usage: acl view <KEYS> <STORE> [OPTIONS]|Usage: acl explain <KEYS> <STORE>
+--help|Usage: acl sample <N>|docs/FORMATS.md
 fly;high|Usage: acl <COMMAND>|Usage: acl sample <N>|docs/FORMATS.md|acl: unexpected argument 'fly'
-preview|Usage: acl preview [OPTIONS] <RULES>|--explain|acl: an argument is missing after 'preview'
+preview|Usage: acl preview <RULES> [OPTIONS]|--explain|acl: an argument is missing after 'preview'
 encode|Usage: acl encode <KEYS>|acl encode my.keys <my.esis >my.file|acl: an argument is missing after 'encode'
-seal;k;b|Usage: acl seal <KEYS>|acl seal my.keys <my.rules >my.licence|acl: unexpected argument 'b'
-view;k;s;l|Usage: acl view [OPTIONS] <KEYS> <STORE>|--query <P>|acl: unexpected argument 'l'
+seal;k;b|Usage: acl seal <KEYS>|acl seal my.keys <my.rules >my.licence|acl: unexpected argument 'b'; the input is read
+view;k;s;l|Usage: acl view <KEYS> <STORE> [OPTIONS]|--query <P>|acl: unexpected argument 'l'; the input
+view;--query;/a;k;s|acl: unexpected argument 'k'; options come after the command and its files
+view;k;--query;/a;s|acl: unexpected argument '/a'; options come after the command and its files
+--query;/a;view;k;s|acl: unexpected argument '--query'; options come after the command and its files
+preview;--explain;r|acl: unexpected argument 'r'; options come after the command and its files
+preview;r;--query;/a;--query;/b|acl: unexpected argument '--query'; --query and --explain are given at most once
+view;k;s;--query;|acl: unexpected argument ''; it is empty
+view;k;s;--explain|acl: unexpected argument '--explain'; 'acl explain' writes the explanation
+explain;k;s;--query;/a|acl: unexpected argument '--query'
+encode;k;-o;f|acl: unexpected argument '-o'; the output is written to standard output
 explain;k|Usage: acl explain <KEYS> <STORE>|The encrypted file|acl: an argument is missing after 'k'
 sample;0|Usage: acl sample <N>|from 1 to 20000|acl: unexpected argument '0'";
 
@@ -45,6 +54,10 @@ fn a_faulty_command_line_gets_its_wrong_argument_and_a_page(rt: HostRuntime) -> 
     }
     let page = message_for(rt.alloc(), &[], &Outcome::Usage)?;
     assert!(rt; page.as_str().starts_with("Give each reader"));
+    let page = text_for(rt.alloc(), "--help", Outcome::Usage)?;
+    assert!(rt; page.as_str().starts_with("Give each reader"));
+    let page = text_for(rt.alloc(), "view;--help", Outcome::Usage)?;
+    assert!(rt; page.as_str().starts_with("Show an encrypted"));
     Ok(())
 }
 
@@ -55,6 +68,9 @@ fn outcome_named(name: &str, at: u32) -> Option<Outcome> {
         "KeysFault" => Outcome::KeysFault,
         "BadLine" => Outcome::BadLine { line: at },
         "SecondRoot" => Outcome::SecondRoot { line: at },
+        "InputTooLong" => Outcome::InputTooLong { limit: at },
+        "TooManyStates" => Outcome::TooManyStates,
+        "Unsupported" => Outcome::Unsupported { line: 1, kind: 83 },
         "SourceFault" => Outcome::SourceFault,
         "BadSeal" => Outcome::BadSeal {
             given: digest,
@@ -95,17 +111,33 @@ fn is_explained(alloc: Global, row: &str) -> Result<bool, Fail> {
 
 const LINES: &str = "KeysFault|0|preview;r|acl: r: not found, or not a readable file
 KeysFault|0|view;k;s|acl: k: not found, or not a readable file
-BadLine|1|preview;r|acl: standard input: not a line of a document; examples/xml.sh converts XML files
+BadLine|1|preview;r|acl: standard input: not a line of a document; tools/why.py FILE says why, and \
+    examples/xml.sh converts XML files
+Unsupported|0|encode;k|acl: standard input: documents have no lines of this kind; tools/why.py FILE says why, and \
+    examples/xml.sh converts XML files
+InputTooLong|33554432|encode;k|acl: standard input: longer than 33,554,432 bytes
+InputTooLong|131072|encode;k|acl: k: longer than 131,072 bytes
+InputTooLong|131072|preview;r|acl: r: longer than 131,072 bytes
+InputTooLong|131072|seal;k|acl: the keys or standard input: longer than 131,072 bytes
+TooManyStates|0|preview;r|acl: the rules together, or the query: more than 256 steps, \
+    256 tests in predicates or 64 predicates
 SecondRoot|3|encode;k|acl: standard input: something follows the end of the root
 SourceFault|0|encode;k|acl: standard input: cannot be read
 BadSeal|0|view;k;s|acl: standard input: the licence was changed since it was sealed, or sealed with other keys
-BadRule|19|preview;r|acl: r: the path is invalid after its first 19 bytes, or ends too early
-BadLicence|1|preview;r|acl: r: expected the line 'licence 1', without a seal, spaces or a carriage return
-BadLicence|1|seal;k|acl: standard input: expected the line 'licence 1', without a seal, spaces or a carriage return
-BadLicence|1|view;k;s|acl: standard input: expected the seal line, which acl seal writes before the body
+BadRule|19|preview;r|acl: r: the path is invalid after its first 19 bytes, or ends too early; \
+    tools/why.py FILE shows the place
+BadQuery|2|view;k;s;--query=//|acl: the query: the path is invalid after its first 2 bytes, or ends too early; \
+    tools/why.py --query P shows the place
+BadLicence|1|preview;r|acl: r: expected the line 'licence 1', without a seal or anything else; \
+    tools/why.py FILE says more
+BadLicence|1|seal;k|acl: standard input: expected the line 'licence 1', without a seal or anything else; \
+    tools/why.py FILE says more
+BadLicence|1|view;k;s|acl: standard input: expected the seal line, which acl seal writes before the body; \
+    tools/why.py FILE says more
 BadLicence|3|view;k;s|acl: standard input: expected the line that acl encode prints: 'root' and 64 hexadecimal digits
-BadLicence|4|preview;r|acl: r: expected a rule ('+' or '-', a unique id and a path), or 'end' as the last line
-BadKeys|1|seal;k|acl: k: expected 'document' and 32 hexadecimal digits
+BadLicence|4|preview;r|acl: r: expected a rule ('+' or '-', a unique id and a path, with one space between them), \
+    or 'end' as the last line; tools/why.py FILE says more
+BadKeys|1|seal;k|acl: k: expected 'document', a space and 32 hexadecimal digits; tools/why.py FILE says more
 BadKeys|3|seal;k|acl: k: something follows the two lines of the keys
 BadQuery|0|view;k;s;--query=/a|acl: the query: a path must begin with / or //
 BadHeader|0|view;k;s|acl: s: not a file made by acl encode
