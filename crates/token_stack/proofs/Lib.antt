@@ -9,3 +9,4 @@ pub mod OpenLaws
 pub mod FeedLaws
 pub mod InvariantLaws
 pub mod SignLaws
+pub mod BoundLaws

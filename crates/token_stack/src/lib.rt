@@ -2,6 +2,7 @@
 //! it.
 #![tactic(auto)]
 
+mod bound_laws;
 mod entry;
 mod laws;
 mod moves;
@@ -9,6 +10,9 @@ mod rows;
 mod sign_laws;
 mod tokens;
 
+pub use bound_laws::{
+    predicates_lie_between_bounds, selection_follows_predicates, selection_lies_between_bounds,
+};
 pub use entry::Entry;
 pub use laws::{
     levels_follow_tags, open_elements_stand_in_the_document, rows_have_the_rules_that_select,
