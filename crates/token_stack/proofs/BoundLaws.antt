@@ -31,7 +31,7 @@ use Rattle.token_stack.specs.Bounds.{is_met, is_settled, PredicateTruth, model_t
 
 -- ---- tests
 
-same_by : (a b : Bool) → (a ≡ true → b ≡ true) → (b ≡ true → a ≡ true) → a ≡ b
+pub same_by : (a b : Bool) → (a ≡ true → b ≡ true) → (b ≡ true → a ≡ true) → a ≡ b
 same_by true b to from = sym (to refl)
 same_by false true to from = from refl
 same_by false false to from = refl
@@ -57,7 +57,7 @@ either true = inr refl
 either false = inl refl
 
 module _ {X : Type 0} where
-  all_has : (p : X → Bool) (xs : List X) (x : X) → list_all p xs ≡ true → Has xs x → p x ≡ true
+  pub all_has : (p : X → Bool) (xs : List X) (x : X) → list_all p xs ≡ true → Has xs x → p x ≡ true
   all_has p [] x so h = absurd (has_none x h)
   all_has p (y ∷ xs) x so h = elim (has_cases y x xs h) [
     | inl same ↦ ap p (sym same) ∙ first_so (p y) (list_all p xs) so
@@ -294,7 +294,7 @@ module _ (names : List (List ℕ)) (d : Doc) (list : List Event) (spells : Spell
   may_selects_less i j path place later so = selects_grow d (may_truth d list j) (may_truth d list i) path place (may_shrinks i j later) so
 
   -- Where a path's predicates are settled at an element and its ancestors, what may select it does so surely.
-  may_sure : (i : ℕ) (path : Path) (place : List ℕ) → are_settled d list i path place ≡ true → selects_by d (may_truth d list i) path place ≡ true → selects_by d (sure_truth d list i) path place ≡ true
+  pub may_sure : (i : ℕ) (path : Path) (place : List ℕ) → are_settled d list i path place ≡ true → selects_by d (may_truth d list i) path place ≡ true → selects_by d (sure_truth d list i) path place ≡ true
   may_sure i path place settled so =
       selects_grow_on d (may_truth d list i) (sure_truth d list i) (λ p. Has (prefixes place) p) (λ p q above h. prefix_of_prefix place p q above h) path place
       (λ s pred p e has mine above there may. elim (or_cases (is_met d list i p pred) (not (is_settled d list i p pred)) may) [

@@ -10,3 +10,4 @@ pub mod FeedLaws
 pub mod InvariantLaws
 pub mod SignLaws
 pub mod BoundLaws
+pub mod BoundRows

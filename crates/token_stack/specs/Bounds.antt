@@ -1,6 +1,6 @@
 -- What the first events of a list tell about predicates, and the bounds that follow for the elements that
 -- a rule selects. The *bearer* of a predicate is its context node (XPath 1.0, 1). Defined by this project.
-use Rattle.std.specs.Prelude.{◌≡◌, ℕ, Bool, true, false, nat_eq, nat_lt, not, ◌&&◌, ◌||◌, Option, Some, None, List, [], ◌∷◌, ◌++◌, length, if◌then◌else◌}
+use Rattle.std.specs.Prelude.{◌≡◌, ◌≤◌, ℕ, Bool, true, false, nat_eq, nat_le, nat_lt, not, ◌&&◌, ◌||◌, Option, Some, None, List, [], ◌∷◌, length, if◌then◌else◌}
 use Rattle.std.specs.List.{list_any, list_all}
 use Rattle.std.specs.Option.{option_map_or}
 use Rattle.acl_bits.specs.Row.{is_member}
@@ -99,20 +99,22 @@ are_settled d list i path place =
 
 -- ---- levels
 
--- the set of a level, where each open element has a set by its place; empty where no element has the level
-abbrev pub set_of_level : (List ℕ → List ℕ) → List OpenPlace → ℕ → List ℕ
-set_of_level sets [] level = []
-set_of_level sets (element ∷ up) level =
-    if nat_eq level (length (element ∷ up)) then sets element.place else set_of_level sets up level
+-- the place of the open element of a level, if there is one
+abbrev pub place_of_level : List OpenPlace → ℕ → Option (List ℕ)
+place_of_level [] level = None
+place_of_level (element ∷ up) level =
+    if nat_eq level (length (element ∷ up)) then Some element.place else place_of_level up level
 
--- the rules that surely select the element of a level, by the first `known` events, where i events have
--- been read
+-- the rules that surely select the element of a level, which is open after the first i events, by what the
+-- first `known` events tell
 abbrev pub sure_row : List Rule → Doc → List Event → ℕ → ℕ → ℕ → List ℕ
-sure_row rules d list i known level = set_of_level (sure_rules rules d list known) (open_at list i) level
+sure_row rules d list i known level =
+    option_map_or (sure_rules rules d list known) (place_of_level (open_at list i) level) []
 
--- the rules that may select the element of a level, in the same way
+-- the rules that may select it, in the same way
 abbrev pub may_row : List Rule → Doc → List Event → ℕ → ℕ → ℕ → List ℕ
-may_row rules d list i known level = set_of_level (may_rules rules d list known) (open_at list i) level
+may_row rules d list i known level =
+    option_map_or (may_rules rules d list known) (place_of_level (open_at list i) level) []
 
 -- Sets of sure and of possible rules for each level are within the bounds after the first i events. They
 -- are right for the open elements. Each rule that surely selects an open element is in the sure set of its
@@ -120,11 +122,19 @@ may_row rules d list i known level = set_of_level (may_rules rules d list known)
 pub record StandsWithin (rules : List Rule) (d : Doc) (list : List Event) (i : ℕ)
     (surely possibly : ℕ → List ℕ) : Type 0 where
   pub right : Stands rules d (open_at list i) surely possibly
-  pub sure : (inner : List OpenPlace) (element : OpenPlace) (up : List OpenPlace) (n : ℕ)
-      → open_at list i ≡ inner ++ (element ∷ up)
-      → is_member (sure_rules rules d list i element.place) n ≡ true
-      → is_member (surely (length (element ∷ up))) n ≡ true
-  pub may : (inner : List OpenPlace) (element : OpenPlace) (up : List OpenPlace) (n : ℕ)
-      → open_at list i ≡ inner ++ (element ∷ up)
-      → is_member (possibly (length (element ∷ up))) n ≡ true
-      → is_member (may_rules rules d list i element.place) n ≡ true
+  pub sure : (level : ℕ) (place : List ℕ) (n : ℕ)
+      → place_of_level (open_at list i) level ≡ Some place
+      → is_member (sure_rules rules d list i place) n ≡ true → is_member (surely level) n ≡ true
+  pub may : (level : ℕ) (place : List ℕ) (n : ℕ)
+      → place_of_level (open_at list i) level ≡ Some place
+      → is_member (possibly level) n ≡ true → is_member (may_rules rules d list i place) n ≡ true
+
+-- The elements of the levels up to this one that are open after the first i events are also open later,
+-- after the first `ahead` events.
+abbrev pub AreStillOpen : List Event → ℕ → ℕ → ℕ → Type 0
+AreStillOpen list i ahead level = (k : ℕ) → k ≤ level
+    → place_of_level (open_at list i) k ≡ place_of_level (open_at list ahead) k
+
+-- the sets of the levels up to this one by what is known ahead, and the others as they were
+abbrev pub learned_rows : ℕ → (ℕ → List ℕ) → (ℕ → List ℕ) → ℕ → List ℕ
+learned_rows level ahead own k = if nat_le k level then ahead k else own k

@@ -2,16 +2,25 @@
 //! two bounds for the elements that a path selects. These functions do nothing: their contracts are the
 //! laws.
 
-ghost use Rattle.std.specs.Prelude.{◌≡◌, ◌≤◌, ℕ, List, Some, true, length};
-ghost use Rattle.std.specs.List.{list_all};
+ghost use Rattle.std.specs.Prelude.{◌≡◌, ◌≤◌, ◌++◌, ◌∷◌, ℕ, List, Some, true, length};
+ghost use Rattle.std.specs.List.{list_all, slice_get};
+ghost use Rattle.acl_bits.specs.Row.{is_member};
+ghost use Rattle.acl_model.specs.Dictionary.{are_distinct};
 ghost use Rattle.acl_model.specs.Limits.{most_names};
+ghost use Rattle.acl_model.specs.RuleNumbers.{numbers_of};
 ghost use Rattle.acl_model.specs.Select.{select};
 ghost use Rattle.acl_model.specs.declared.document.Doc.{Doc};
 ghost use Rattle.acl_model.specs.declared.path.Path.{Path};
+ghost use Rattle.acl_model.specs.declared.rule.Rule.{Rule};
+ghost use Rattle.acl_walk.specs.Open.{OpenPlace, open_at};
 ghost use Rattle.acl_walk.specs.Spelling.{Spells};
 ghost use Rattle.acl_walk.specs.declared.event.Event.{Event};
-ghost use Rattle.rule_automata.specs.Compile.{is_empty_of};
+ghost use Rattle.rule_automata.specs.Compile.{automata_of, have_no_predicates, is_empty_of};
 ghost use Rattle.token_stack.specs.Bounds.{PredicateTruth, model_truth, sure_truth, may_truth, IsAtMost, selects_by, are_settled};
+ghost use Rattle.token_stack.specs.Bounds.{rules_by, sure_rules, may_rules, sure_row, may_row, StandsWithin, AreStillOpen, learned_rows};
+ghost use Rattle.token_stack.specs.Invariant.{does_rule_select, row_at};
+ghost use Rattle.token_stack.specs.Stack.{TokenStack};
+ghost use Rattle.token_stack.specs.TokensStand.{TokensStandAt};
 
 /// Where more predicates are taken as true, a path selects no less. By the truth of the model it selects
 /// what it selects in the document. Without predicates this is so by each truth.
@@ -69,4 +78,63 @@ pub fn selection_lies_between_bounds()
         (path : Path) (place : List ℕ) → length names ≤ most_names → Spells names (Some d) list
         → are_settled d list i path place ≡ true
         → selects_by d (may_truth d list i) path place ≡ select d path place }
+{}
+
+/// The same of the rules at a place: each that surely selects it selects it, and each that selects it may
+/// select it. A rule whose predicates are settled at the element and at its ancestors is in both sets or
+/// in none. Where no rule has a predicate, each truth of predicates gives the rules that select the place.
+pub fn rules_lie_between_bounds()
+    ensures sure { (names : List (List ℕ)) (rules : List Rule) (d : Doc) (list : List Event) (i : ℕ)
+        (place : List ℕ) (n : ℕ) → length names ≤ most_names → Spells names (Some d) list
+        → is_member (sure_rules rules d list i place) n ≡ true
+        → does_rule_select rules d n place ≡ true }
+    ensures may { (names : List (List ℕ)) (rules : List Rule) (d : Doc) (list : List Event) (i : ℕ)
+        (place : List ℕ) (n : ℕ) → length names ≤ most_names → length rules ≤ 256
+        → Spells names (Some d) list → does_rule_select rules d n place ≡ true
+        → is_member (may_rules rules d list i place) n ≡ true }
+    ensures sure_grows { (names : List (List ℕ)) (rules : List Rule) (d : Doc) (list : List Event)
+        (i later : ℕ) (place : List ℕ) (n : ℕ) → length names ≤ most_names
+        → Spells names (Some d) list → i ≤ later
+        → is_member (sure_rules rules d list i place) n ≡ true
+        → is_member (sure_rules rules d list later place) n ≡ true }
+    ensures may_shrinks { (names : List (List ℕ)) (rules : List Rule) (d : Doc) (list : List Event)
+        (i later : ℕ) (place : List ℕ) (n : ℕ) → length names ≤ most_names
+        → Spells names (Some d) list → i ≤ later
+        → is_member (may_rules rules d list later place) n ≡ true
+        → is_member (may_rules rules d list i place) n ≡ true }
+    ensures settled { (names : List (List ℕ)) (rules : List Rule) (d : Doc) (list : List Event)
+        (i : ℕ) (place : List ℕ) (n : ℕ) (rule : Rule) → length names ≤ most_names
+        → Spells names (Some d) list → slice_get rules n ≡ Some rule
+        → are_settled d list i rule.path place ≡ true
+        → is_member (may_rules rules d list i place) n ≡ true
+        → is_member (sure_rules rules d list i place) n ≡ true }
+    ensures plain { (rules : List Rule) (d : Doc) (truth : PredicateTruth) (place : List ℕ)
+        → have_no_predicates rules ≡ true
+        → rules_by rules d truth place ≡ numbers_of (λ r. select d r.path place) rules }
+{}
+
+/// The bounds give rows for each open level. By the first `known` events, from i on, these rows are within
+/// the bounds after the first i events. Rows stay within them where the levels of elements that are still
+/// open ahead take over rows that are within the bounds there. Where no rule has a predicate, the rows of
+/// tokens that stand at i are those of each truth of predicates.
+pub fn bounds_give_rows()
+    ensures stand { (names : List (List ℕ)) (rules : List Rule) (d : Doc) (list : List Event)
+        (i known : ℕ) → length names ≤ most_names → length rules ≤ 256
+        → Spells names (Some d) list → i ≤ known
+        → StandsWithin rules d list i (sure_row rules d list i known)
+        (may_row rules d list i known) }
+    ensures learn { (names : List (List ℕ)) (rules : List Rule) (d : Doc) (list : List Event)
+        (i ahead level : ℕ) (surely possibly surely_ahead possibly_ahead : ℕ → List ℕ)
+        → length names ≤ most_names → Spells names (Some d) list → i ≤ ahead
+        → AreStillOpen list i ahead level → StandsWithin rules d list i surely possibly
+        → StandsWithin rules d list ahead surely_ahead possibly_ahead
+        → StandsWithin rules d list i (learned_rows level surely_ahead surely)
+        (learned_rows level possibly_ahead possibly) }
+    ensures plain { (names : List (List ℕ)) (rules : List Rule) (d : Doc) (list : List Event) (i : ℕ)
+        (tokens : TokenStack) (truth : PredicateTruth) (inner : List OpenPlace)
+        (element : OpenPlace) (up : List OpenPlace) → are_distinct names ≡ true
+        → length names ≤ most_names → have_no_predicates rules ≡ true → Spells names (Some d) list
+        → TokensStandAt (automata_of names rules).states list i tokens
+        → open_at list i ≡ inner ++ (element ∷ up)
+        → row_at tokens (length (element ∷ up)) ≡ rules_by rules d truth element.place }
 {}
