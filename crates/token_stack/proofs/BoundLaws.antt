@@ -1,10 +1,11 @@
 -- The bounds after the first events of a list contain the model's selection, narrow with each event, and
 -- are exact where the predicates are settled.
-use Rattle.std.proofs.Common.{◌≡◌, ◌≤◌, ◌<◌, ◌+◌, ℕ, zero, suc, Bool, true, false, nat_eq, nat_lt, not, ◌&&◌, ◌||◌, Option, Some, None, is_some, List, [], ◌∷◌, ◌++◌, length, map, take, drop, find, refl, ap, sym, subst, ◌∙◌, inl, inr, ◌⊎◌, arith}
+use Rattle.std.proofs.Common.{◌≡◌, ◌≤◌, ◌<◌, ◌+◌, ℕ, zero, suc, Bool, true, false, nat_eq, nat_lt, not, ◌&&◌, ◌||◌, Option, Some, None, is_some, List, [], ◌∷◌, ◌++◌, length, map, take, drop, find, refl, ap, sym, subst, ◌∙◌, inl, inr, ◌⊎◌, arith, cond}
 use Rattle.std.proofs.lemmas.Bool.{true≢false, lt-ltb, ltb-true}
-use Rattle.std.proofs.lemmas.Option.{same_Some, none-some}
+use Rattle.std.proofs.lemmas.Option.{same_Some, none-some, slice_get_within, get_or_from_slice_get}
+use Rattle.std.proofs.lemmas.List.FromFn.{length-range_with_len, get_or-range_with_len}
 use Rattle.std.specs.Cmp.{first_so, second_so}
-use Rattle.std.specs.List.{list_any, list_all, slice_get}
+use Rattle.std.specs.List.{list_any, list_all, range_with_len, slice_get}
 use Rattle.std.specs.Option.{option_map_or, option_or}
 use Rattle.acl_model.specs.NameTests.{passes}
 use Rattle.acl_model.specs.Places.{at, prefixes}
@@ -25,6 +26,8 @@ use Rattle.acl_walk.specs.Closes.{attributes_at, close, counted, ends_attribute_
 use Rattle.acl_walk.specs.Open.{open_at}
 use Rattle.acl_walk.specs.Spelling.{Spells}
 use Rattle.acl_walk.specs.declared.event.Event.{Event}
+use Rattle.acl_walk.proofs.BegunLaws.{stands_in_list}
+use Rattle.acl_walk.proofs.CloseLaws.{close-some, close-within, close-inside}
 use Rattle.acl_walk.proofs.MeetLaws.{both_so, any_found, any_so, find_any, find_has, has_map, has_map_cases, has_counted, counted_within, event_within, met_so, met-is}
 use Rattle.rule_automata.specs.Compile.{is_empty_of}
 use Rattle.token_stack.specs.Bounds.{is_met, is_settled, PredicateTruth, model_truth, sure_truth, may_truth, IsAtMost, keeps_by, is_kept_by, step_by, steps_by, selects_by, are_settled}
@@ -218,6 +221,32 @@ settled_stays d list i j bearer pred later so =
     let less : c.0 < i = ltb-true c.0 i c.2 in
     ap (λ o. option_map_or (λ index. nat_lt index j) o false) c.1 ∙ lt-ltb c.0 j (omega (arith, less, later))
 
+module _ {X : Type 0} where
+  find_before_by : (p : X → Bool) (z y x : X) (xs : List X) (k : ℕ) (b : Bool) → p z ≡ b → cond b (Some z) (find p xs) ≡ Some y → slice_get (z ∷ xs) k ≡ Some x → p x ≡ true
+      → ((l : ℕ) → find p xs ≡ Some y → slice_get xs l ≡ Some x → (j : ℕ) × (j ≤ l) × (slice_get xs j ≡ Some y)) → (j : ℕ) × (j ≤ k) × (slice_get (z ∷ xs) j ≡ Some y)
+  find_before_by p z y x xs k true is so there passes rest = (0, omega arith, so)
+  find_before_by p z y x xs zero false is so there passes rest = absurd (true≢false (sym passes ∙ ap p (sym (same_Some z x there)) ∙ is))
+  find_before_by p z y x xs (suc k) false is so there passes rest = let found = rest k so there in (suc found.0, omega (arith, found.1), found.2)
+
+  -- What is found stands no later than any member that passes.
+  find_before : (p : X → Bool) (xs : List X) (y : X) (k : ℕ) (x : X) → find p xs ≡ Some y → slice_get xs k ≡ Some x → p x ≡ true → (j : ℕ) × (j ≤ k) × (slice_get xs j ≡ Some y)
+  find_before p [] y k x so there passes = absurd (none-some y so)
+  find_before p (z ∷ xs) y k x so there passes = find_before_by p z y x xs k (p z) refl so there passes (λ l found at. find_before p xs y l x found at passes)
+
+-- The number at an index is the index.
+number_is : (n j y : ℕ) → slice_get (counted n) j ≡ Some y → j ≡ y
+number_is n j y there =
+    let long = length-range_with_len 0 n in
+    let within = slice_get_within (range_with_len 0 n) j y there in
+    let is = get_or_from_slice_get (range_with_len 0 n) j y 0 there in
+    let counts = get_or-range_with_len 0 n j 0 (omega (arith, long, within)) in
+    omega (arith, is, counts)
+
+-- what is found, where some member passes
+found_some : {X : Type 0} (o : Option X) → is_some o ≡ true → (x : X) × (o ≡ Some x)
+found_some None so = absurd (true≢false (sym so))
+found_some (Some x) so = (x, refl)
+
 -- An event that meets a predicate is one of the list.
 meets_within : (list : List Event) (attribute : Option (List ℕ)) (cmp : Option Cmp) (place : List ℕ) (i : ℕ) (x : Element) → meets list attribute cmp place i x ≡ true → i < length list
 meets_within list None None place i x met = event_within list is_begin (innermost_is_at place (open_at list (i + 1))) i met
@@ -232,6 +261,19 @@ meets_within list (Some name) cmp place i x met =
 first_is : {X : Type 0} (o p : Option X) (x : X) → is_some o ≡ true → option_or o p ≡ Some x → o ≡ Some x
 first_is None p x some so = absurd (true≢false (sym some))
 first_is (Some y) p x some so = so
+
+by_cases : (settled sense : Bool) → ((settled && sense) || not settled) ≡ (not settled || sense)
+by_cases true true = refl
+by_cases true false = refl
+by_cases false sense = refl
+
+not_grows : (a b : Bool) → (a ≡ true → b ≡ true) → not b ≡ true → not a ≡ true
+not_grows true b to so = absurd (not_so b so (to refl))
+not_grows false b to so = refl
+
+-- The bounds of a predicate's negation are those of the predicate, swapped.
+pub negation_swaps : (d : Doc) (low high : PredicateTruth) → IsAtMost d low high → IsAtMost d (λ bearer pred. not (high bearer pred)) (λ bearer pred. not (low bearer pred))
+negation_swaps d low high most bearer e pred there so = not_grows (low bearer pred) (high bearer pred) (most bearer e pred there) so
 
 module _ (names : List (List ℕ)) (d : Doc) (list : List Event) (spells : Spells names (Some d) list) where
   -- What an event meets is true.
@@ -252,6 +294,44 @@ module _ (names : List (List ℕ)) (d : Doc) (list : List Event) (spells : Spell
       let first = first_is (find (is_met_at d list bearer pred) (counted (length list))) (find (finishes_at list bearer) (counted (length list))) c.0 some c.1 in
       let found = find_has (is_met_at d list bearer pred) (counted (length list)) c.0 first in
       any_so (is_met_at d list bearer pred) (counted i) c.0 (has_counted i c.0 (ltb-true c.0 i c.2)) found.1
+
+  -- A predicate that is met is settled.
+  met_settled : (bearer : List ℕ) (pred : Pred) (i : ℕ) → is_met d list i bearer pred ≡ true → is_settled d list i bearer pred ≡ true
+  met_settled bearer pred i so =
+      let found = any_found (is_met_at d list bearer pred) (counted i) so in
+      let less : found.0 < i = counted_within i found.0 found.1 in
+      let tells = met_so d list bearer pred found.0 found.2 in
+      let own : Has (counted (length list)) found.0 = has_counted (length list) found.0 (meets_within list pred.attribute pred.cmp tells.place found.0 tells.x tells.met) in
+      let first = found_some (find (is_met_at d list bearer pred) (counted (length list)))
+          (find_any (is_met_at d list bearer pred) (counted (length list)) (any_so (is_met_at d list bearer pred) (counted (length list)) found.0 own found.2)) in
+      let before = find_before (is_met_at d list bearer pred) (counted (length list)) first.0 own.0 found.0 first.1 own.1 found.2 in
+      let met_index : own.0 ≡ found.0 = number_is (length list) own.0 found.0 own.1 in
+      let close_index : before.0 ≡ first.0 = number_is (length list) before.0 first.0 before.2 in
+      let order : before.0 ≤ own.0 = before.1 in
+      ap (λ o. option_map_or (λ index. nat_lt index i) (option_or o (find (finishes_at list bearer) (counted (length list)))) false) first.1
+      ∙ lt-ltb first.0 i (omega (arith, met_index, close_index, order, less))
+
+  -- A predicate is surely true where it is true and settled, and may be true where it is true or not settled.
+  pub sure_is : (bearer : List ℕ) (e : Element) (pred : Pred) (i : ℕ) → at d bearer ≡ Some e → sure_truth d list i bearer pred ≡ (is_settled d list i bearer pred && holds pred e)
+  sure_is bearer e pred i there = same_by (is_met d list i bearer pred) (is_settled d list i bearer pred && holds pred e)
+      (λ met. both_so (is_settled d list i bearer pred) (holds pred e) (met_settled bearer pred i met) (event_holds bearer e pred i there met))
+      (λ so. true_met bearer e pred i there (second_so (is_settled d list i bearer pred) (holds pred e) so) (first_so (is_settled d list i bearer pred) (holds pred e) so))
+
+  pub may_is : (bearer : List ℕ) (e : Element) (pred : Pred) (i : ℕ) → at d bearer ≡ Some e → may_truth d list i bearer pred ≡ (not (is_settled d list i bearer pred) || holds pred e)
+  may_is bearer e pred i there = ap (λ b. b || not (is_settled d list i bearer pred)) (sure_is bearer e pred i there) ∙ by_cases (is_settled d list i bearer pred) (holds pred e)
+
+  -- After its bearer's Finish a predicate is settled, and with all events each is.
+  pub settled_after : (bearer : List ℕ) (e : Element) (pred : Pred) (finish i : ℕ) → at d bearer ≡ Some e → finishes_at list bearer finish ≡ true → finish < i → is_settled d list i bearer pred ≡ true
+  settled_after bearer e pred finish i there finishes later =
+      let c = found_some (close d list bearer pred) (close-some names d list bearer e pred spells there) in
+      let s = stands_in_list names d list bearer e spells there in
+      let last : c.0 ≤ finish = (close-inside names d list spells bearer pred (length s.prefix) c.0 finish c.1 s.begins finishes).1 in
+      ap (λ o. option_map_or (λ index. nat_lt index i) o false) c.1 ∙ lt-ltb c.0 i (omega (arith, last, later))
+
+  pub settled_all : (bearer : List ℕ) (e : Element) (pred : Pred) → at d bearer ≡ Some e → is_settled d list (length list) bearer pred ≡ true
+  settled_all bearer e pred there =
+      let c = found_some (close d list bearer pred) (close-some names d list bearer e pred spells there) in
+      ap (λ o. option_map_or (λ index. nat_lt index (length list)) o false) c.1 ∙ lt-ltb c.0 (length list) (close-within d list bearer pred c.0 c.1)
 
   -- The sure truth is at most the model's, and that at most what may be true.
   pub sure_at_most : (i : ℕ) → IsAtMost d (sure_truth d list i) (model_truth d)

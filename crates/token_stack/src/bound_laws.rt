@@ -2,37 +2,67 @@
 //! two bounds for the elements that a path selects. These functions do nothing: their contracts are the
 //! laws.
 
-ghost use Rattle.std.specs.Prelude.{◌≡◌, ◌≤◌, ◌++◌, ◌∷◌, ℕ, List, Some, true, length};
+ghost use Rattle.std.specs.Prelude.{◌≡◌, ◌≤◌, ◌<◌, ◌++◌, ◌∷◌, ◌&&◌, ◌||◌, ℕ, List, Some, true, length, not};
 ghost use Rattle.std.specs.List.{list_all, slice_get};
 ghost use Rattle.acl_bits.specs.Row.{is_member};
 ghost use Rattle.acl_model.specs.Dictionary.{are_distinct};
 ghost use Rattle.acl_model.specs.Limits.{most_names};
+ghost use Rattle.acl_model.specs.Places.{at};
+ghost use Rattle.acl_model.specs.Predicates.{holds};
 ghost use Rattle.acl_model.specs.RuleNumbers.{numbers_of};
 ghost use Rattle.acl_model.specs.Select.{select};
 ghost use Rattle.acl_model.specs.declared.document.Doc.{Doc};
+ghost use Rattle.acl_model.specs.declared.document.Element.{Element};
 ghost use Rattle.acl_model.specs.declared.path.Path.{Path};
+ghost use Rattle.acl_model.specs.declared.path.Pred.{Pred};
 ghost use Rattle.acl_model.specs.declared.rule.Rule.{Rule};
+ghost use Rattle.acl_walk.specs.Begun.{finishes_at};
 ghost use Rattle.acl_walk.specs.Open.{OpenPlace, open_at};
 ghost use Rattle.acl_walk.specs.Spelling.{Spells};
 ghost use Rattle.acl_walk.specs.declared.event.Event.{Event};
 ghost use Rattle.rule_automata.specs.Compile.{automata_of, have_no_predicates, is_empty_of};
-ghost use Rattle.token_stack.specs.Bounds.{PredicateTruth, model_truth, sure_truth, may_truth, IsAtMost, selects_by, are_settled};
+ghost use Rattle.token_stack.specs.Bounds.{PredicateTruth, model_truth, is_settled, sure_truth, may_truth, IsAtMost, selects_by, are_settled};
 ghost use Rattle.token_stack.specs.Bounds.{rules_by, sure_rules, may_rules, sure_row, may_row, StandsWithin, AreStillOpen, learned_rows};
 ghost use Rattle.token_stack.specs.Invariant.{does_rule_select, row_at};
 ghost use Rattle.token_stack.specs.Stack.{TokenStack};
 ghost use Rattle.token_stack.specs.TokensStand.{TokensStandAt};
 
-/// Where more predicates are taken as true, a path selects no less. By the truth of the model it selects
-/// what it selects in the document. Without predicates this is so by each truth.
+/// Where more predicates are taken as true, a path selects no less. Negation swaps two truths, of which
+/// one is at most the other. By the truth of the model a path selects what it selects in the document.
+/// Without predicates this is so by each truth.
 pub fn selection_follows_predicates()
     ensures grows { (d : Doc) (low high : PredicateTruth) (path : Path) (place : List ℕ)
         → IsAtMost d low high → selects_by d low path place ≡ true
         → selects_by d high path place ≡ true }
+    ensures negation { (d : Doc) (low high : PredicateTruth) → IsAtMost d low high
+        → IsAtMost d (λ bearer pred. not (high bearer pred)) (λ bearer pred. not (low bearer pred)) }
     ensures model { (d : Doc) (path : Path) (place : List ℕ)
         → selects_by d (model_truth d) path place ≡ select d path place }
     ensures plain { (d : Doc) (truth : PredicateTruth) (path : Path) (place : List ℕ)
         → list_all (λ s. is_empty_of s.preds) path.steps ≡ true
         → selects_by d truth path place ≡ select d path place }
+{}
+
+/// When predicates are settled, in a list that spells a document. After the first i events, a predicate is
+/// surely true exactly where it is settled and true, and it may be true exactly where it is not settled or
+/// is true. After the Finish of its bearer a predicate is settled, and after all events each is.
+pub fn predicates_are_settled()
+    ensures sure { (names : List (List ℕ)) (d : Doc) (list : List Event) (i : ℕ) (bearer : List ℕ)
+        (e : Element) (pred : Pred) → length names ≤ most_names → Spells names (Some d) list
+        → at d bearer ≡ Some e
+        → sure_truth d list i bearer pred ≡ (is_settled d list i bearer pred && holds pred e) }
+    ensures may { (names : List (List ℕ)) (d : Doc) (list : List Event) (i : ℕ) (bearer : List ℕ)
+        (e : Element) (pred : Pred) → length names ≤ most_names → Spells names (Some d) list
+        → at d bearer ≡ Some e
+        → may_truth d list i bearer pred ≡ (not (is_settled d list i bearer pred) || holds pred e) }
+    ensures after_finish { (names : List (List ℕ)) (d : Doc) (list : List Event) (finish i : ℕ)
+        (bearer : List ℕ) (e : Element) (pred : Pred) → length names ≤ most_names
+        → Spells names (Some d) list → at d bearer ≡ Some e
+        → finishes_at list bearer finish ≡ true → finish < i
+        → is_settled d list i bearer pred ≡ true }
+    ensures at_end { (names : List (List ℕ)) (d : Doc) (list : List Event) (bearer : List ℕ)
+        (e : Element) (pred : Pred) → length names ≤ most_names → Spells names (Some d) list
+        → at d bearer ≡ Some e → is_settled d list (length list) bearer pred ≡ true }
 {}
 
 /// After the first i events of a list that spells a document, a predicate that is surely true is true,
