@@ -30,7 +30,7 @@ use Rattle.acl_walk.proofs.BegunLaws.{stands_in_list}
 use Rattle.acl_walk.proofs.CloseLaws.{close-some, close-within, close-inside}
 use Rattle.acl_walk.proofs.MeetLaws.{both_so, any_found, any_so, find_any, find_has, has_map, has_map_cases, has_counted, counted_within, event_within, met_so, met-is}
 use Rattle.rule_automata.specs.Compile.{is_empty_of}
-use Rattle.token_stack.specs.Bounds.{is_met, is_settled, PredicateTruth, model_truth, sure_truth, may_truth, IsAtMost, keeps_by, is_kept_by, step_by, steps_by, selects_by, are_settled}
+use Rattle.token_stack.specs.Bounds.{is_met, is_settled, PredicateTruth, model_truth, sure_truth, may_truth, IsAtMost, keeps_by, is_kept_by, step_by, steps_by, selects_by, is_step_settled, are_settled}
 
 -- ---- tests
 
@@ -123,7 +123,7 @@ leads_grows Descendant low high place to so = any_grows low high (ancestors plac
 -- Every predicate of these steps that counts as true by the first truth, at an element of one of these places, does so by the
 -- second.
 abbrev GrowsOn : Doc → PredicateTruth → PredicateTruth → (List ℕ → Type 0) → List Step → Type 0
-GrowsOn d low high on path = (s : Step) (pred : Pred) (p : List ℕ) (e : Element) → Has path s → Has s.preds pred → on p → at d p ≡ Some e → low p pred ≡ true → high p pred ≡ true
+GrowsOn d low high on path = (s : Step) (pred : Pred) (p : List ℕ) (e : Element) → Has path s → Has s.preds pred → on p → at d p ≡ Some e → passes s.test e.name ≡ true → low p pred ≡ true → high p pred ≡ true
 
 abbrev SetGrows : NodeSet → NodeSet → (List ℕ → Type 0) → Type 0
 SetGrows low high on = (low None ≡ true → high None ≡ true) × ((p : List ℕ) → on p → low (Some p) ≡ true → high (Some p) ≡ true)
@@ -141,14 +141,14 @@ module _ (d : Doc) (low high : PredicateTruth) (on : List ℕ → Type 0) (up : 
   ]
 
   kept_grows : (s : Step) (p : List ℕ) (o : Option Element) → on p → at d p ≡ o
-      → ((pred : Pred) (e : Element) → Has s.preds pred → at d p ≡ Some e → low p pred ≡ true → high p pred ≡ true)
+      → ((pred : Pred) (e : Element) → Has s.preds pred → at d p ≡ Some e → passes s.test e.name ≡ true → low p pred ≡ true → high p pred ≡ true)
       → is_kept_by low s p o ≡ true → is_kept_by high s p o ≡ true
   kept_grows s p None good is to so = so
   kept_grows s p (Some e) good is to so =
       both_so (passes s.test e.name) (list_all (high p) s.preds) (first_so (passes s.test e.name) (list_all (low p) s.preds) so)
-      (all_grows (low p) (high p) s.preds (λ pred h. to pred e h is) (second_so (passes s.test e.name) (list_all (low p) s.preds) so))
+      (all_grows (low p) (high p) s.preds (λ pred h. to pred e h is (first_so (passes s.test e.name) (list_all (low p) s.preds) so)) (second_so (passes s.test e.name) (list_all (low p) s.preds) so))
 
-  step_grows : (s : Step) (S T : NodeSet) → ((pred : Pred) (p : List ℕ) (e : Element) → Has s.preds pred → on p → at d p ≡ Some e → low p pred ≡ true → high p pred ≡ true)
+  step_grows : (s : Step) (S T : NodeSet) → ((pred : Pred) (p : List ℕ) (e : Element) → Has s.preds pred → on p → at d p ≡ Some e → passes s.test e.name ≡ true → low p pred ≡ true → high p pred ≡ true)
       → SetGrows S T on → SetGrows (step_by d low s S) (step_by d high s T) on
   step_grows s S T to grows = (
     (λ so. so),
@@ -171,7 +171,7 @@ module _ (d : Doc) (low high : PredicateTruth) (on : List ℕ → Type 0) (up : 
 -- Where one truth is at most another, a path selects by the second what it selects by the first.
 pub selects_grow : (d : Doc) (low high : PredicateTruth) (path : Path) (place : List ℕ) → IsAtMost d low high → selects_by d low path place ≡ true → selects_by d high path place ≡ true
 selects_grow d low high path place most so =
-    selects_grow_on d low high (λ p. Unit {0}) (λ p q good h. tt) path place (λ s pred p e has mine good there. most p e pred there) tt so
+    selects_grow_on d low high (λ p. Unit {0}) (λ p q good h. tt) path place (λ s pred p e has mine good there passed. most p e pred there) tt so
 
 -- ---- by the model's truth a path selects what it selects
 
@@ -373,16 +373,24 @@ module _ (names : List (List ℕ)) (d : Doc) (list : List Event) (spells : Spell
   pub may_selects_less : (i j : ℕ) (path : Path) (place : List ℕ) → i ≤ j → selects_by d (may_truth d list j) path place ≡ true → selects_by d (may_truth d list i) path place ≡ true
   may_selects_less i j path place later so = selects_grow d (may_truth d list j) (may_truth d list i) path place (may_shrinks i j later) so
 
+  step_settled : (i : ℕ) (s : Step) (p : List ℕ) (o : Option Element) (e : Element) → o ≡ Some e → passes s.test e.name ≡ true → is_step_settled d list i p s o ≡ true → list_all (is_settled d list i p) s.preds ≡ true
+  step_settled i s p None e is passed so = absurd (none-some e is)
+  step_settled i s p (Some x) e is passed so = elim (or_cases (not (passes s.test x.name)) (list_all (is_settled d list i p) s.preds) so) [
+    | inl fails ↦ absurd (not_so (passes s.test x.name) fails (ap (λ y. passes s.test y.name) (same_Some x e is) ∙ passed))
+    | inr settled ↦ settled
+  ]
+
   -- Where a path's predicates are settled at an element and its ancestors, what may select it does so surely.
   pub may_sure : (i : ℕ) (path : Path) (place : List ℕ) → are_settled d list i path place ≡ true → selects_by d (may_truth d list i) path place ≡ true → selects_by d (sure_truth d list i) path place ≡ true
   may_sure i path place settled so =
       selects_grow_on d (may_truth d list i) (sure_truth d list i) (λ p. Has (prefixes place) p) (λ p q above h. prefix_of_prefix place p q above h) path place
-      (λ s pred p e has mine above there may. elim (or_cases (is_met d list i p pred) (not (is_settled d list i p pred)) may) [
+      (λ s pred p e has mine above there passed may. elim (or_cases (is_met d list i p pred) (not (is_settled d list i p pred)) may) [
         | inl met ↦ met
         | inr un ↦ absurd (not_so (is_settled d list i p pred) un
             (all_has (is_settled d list i p) s.preds pred
-            (all_has (λ t. list_all (is_settled d list i p) t.preds) path.steps s
-            (all_has (λ b. list_all (λ t. list_all (is_settled d list i b) t.preds) path.steps) (prefixes place) p settled above) has) mine))
+            (step_settled i s p (at d p) e there passed
+            (all_has (λ t. is_step_settled d list i p t (at d p)) path.steps s
+            (all_has (λ b. list_all (λ t. is_step_settled d list i b t (at d b)) path.steps) (prefixes place) p settled above) has)) mine))
       ])
       (own_prefix place) so
 
@@ -406,7 +414,7 @@ pub plain_selects : (d : Doc) (truth : PredicateTruth) (path : Path) (place : Li
 plain_selects d truth path place plain = same_by (selects_by d truth path place) (select d path place)
     (λ so. sym (selects_by-model d path place)
     ∙ selects_grow_on d truth (model_truth d) (λ p. Unit {0}) (λ p q good h. tt) path place
-    (λ s pred p e has mine good there t. absurd (no_member s.preds pred (all_has (λ t. is_empty_of t.preds) path.steps s plain has) mine)) tt so)
+    (λ s pred p e has mine good there passed t. absurd (no_member s.preds pred (all_has (λ t. is_empty_of t.preds) path.steps s plain has) mine)) tt so)
     (λ so. selects_grow_on d (model_truth d) truth (λ p. Unit {0}) (λ p q good h. tt) path place
-    (λ s pred p e has mine good there t. absurd (no_member s.preds pred (all_has (λ t. is_empty_of t.preds) path.steps s plain has) mine)) tt
+    (λ s pred p e has mine good there passed t. absurd (no_member s.preds pred (all_has (λ t. is_empty_of t.preds) path.steps s plain has) mine)) tt
     (selects_by-model d path place ∙ so))

@@ -91,11 +91,17 @@ may_rules rules d list i place = rules_by rules d (may_truth d list i) place
 
 -- ---- where the bounds are exact
 
--- Each predicate of the path is settled by the first i events, at the element at the place and at its
--- ancestors.
+-- Each predicate of a step is settled at the element at the place, if there is one and its name passes the
+-- step's name test.
+abbrev pub is_step_settled : Doc → List Event → ℕ → List ℕ → Step → Option Element → Bool
+is_step_settled d list i place s None = true
+is_step_settled d list i place s (Some e) =
+    not (passes s.test e.name) || list_all (is_settled d list i place) s.preds
+
+-- So is each step of a path, at the element at the place and at its ancestors.
 abbrev pub are_settled : Doc → List Event → ℕ → Path → List ℕ → Bool
 are_settled d list i path place =
-    list_all (λ bearer. list_all (λ s. list_all (is_settled d list i bearer) s.preds) path.steps) (prefixes place)
+    list_all (λ bearer. list_all (λ s. is_step_settled d list i bearer s (at d bearer)) path.steps) (prefixes place)
 
 -- ---- levels
 

@@ -83,8 +83,8 @@ pub fn predicates_lie_between_bounds()
 {}
 
 /// So what a path surely selects it selects, and what it selects it may select. The first grows with the
-/// events and the second shrinks. Where each predicate of the path is settled at an element and at its
-/// ancestors, the three are the same there.
+/// events and the second shrinks. Where each step's predicates are settled at an element and those of its
+/// ancestors that pass the step's name test, the three are the same there.
 pub fn selection_lies_between_bounds()
     ensures sure { (names : List (List ℕ)) (d : Doc) (list : List Event) (i : ℕ) (path : Path)
         (place : List ℕ) → length names ≤ most_names → Spells names (Some d) list
@@ -111,8 +111,8 @@ pub fn selection_lies_between_bounds()
 {}
 
 /// The same of the rules at a place: each that surely selects it selects it, and each that selects it may
-/// select it. A rule whose predicates are settled at the element and at its ancestors is in both sets or
-/// in none. Where no rule has a predicate, each truth of predicates gives the rules that select the place.
+/// select it. Where the predicates of a rule's path are settled, as above, the rule is in both sets or in
+/// none. Where no rule has a predicate, each truth of predicates gives the rules that select the place.
 pub fn rules_lie_between_bounds()
     ensures sure { (names : List (List ℕ)) (rules : List Rule) (d : Doc) (list : List Event) (i : ℕ)
         (place : List ℕ) (n : ℕ) → length names ≤ most_names → Spells names (Some d) list
