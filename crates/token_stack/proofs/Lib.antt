@@ -11,3 +11,4 @@ pub mod InvariantLaws
 pub mod SignLaws
 pub mod BoundLaws
 pub mod BoundRows
+pub mod BoundExamples

@@ -2,7 +2,7 @@
 //! two bounds for the elements that a path selects. These functions do nothing: their contracts are the
 //! laws.
 
-ghost use Rattle.std.specs.Prelude.{◌≡◌, ◌≤◌, ◌<◌, ◌++◌, ◌∷◌, ◌&&◌, ◌||◌, ℕ, List, Some, true, length, not};
+ghost use Rattle.std.specs.Prelude.{◌≡◌, ◌≤◌, ◌<◌, ◌++◌, ◌∷◌, ◌&&◌, ◌||◌, [], ℕ, List, Some, true, false, length, not};
 ghost use Rattle.std.specs.List.{list_all, slice_get};
 ghost use Rattle.acl_bits.specs.Row.{is_member};
 ghost use Rattle.acl_model.specs.Dictionary.{are_distinct};
@@ -18,6 +18,7 @@ ghost use Rattle.acl_model.specs.declared.path.Pred.{Pred};
 ghost use Rattle.acl_model.specs.declared.rule.Rule.{Rule};
 ghost use Rattle.acl_walk.specs.Begun.{finishes_at};
 ghost use Rattle.acl_walk.specs.Open.{OpenPlace, open_at};
+ghost use Rattle.acl_walk.specs.inside.CloseExamples.{nested, nested_events};
 ghost use Rattle.acl_walk.specs.Spelling.{Spells};
 ghost use Rattle.acl_walk.specs.declared.event.Event.{Event};
 ghost use Rattle.rule_automata.specs.Compile.{automata_of, have_no_predicates, is_empty_of};
@@ -25,6 +26,7 @@ ghost use Rattle.token_stack.specs.Bounds.{PredicateTruth, model_truth, is_settl
 ghost use Rattle.token_stack.specs.Bounds.{rules_by, sure_rules, may_rules, sure_row, may_row, StandsWithin, AreStillOpen, learned_rows};
 ghost use Rattle.token_stack.specs.Invariant.{does_rule_select, row_at};
 ghost use Rattle.token_stack.specs.Stack.{TokenStack};
+ghost use Rattle.token_stack.specs.inside.BoundExamples.{a_with_b};
 ghost use Rattle.token_stack.specs.TokensStand.{TokensStandAt};
 
 /// Where more predicates are taken as true, a path selects no less. Negation swaps two truths, of which
@@ -167,4 +169,15 @@ pub fn bounds_give_rows()
         → TokensStandAt (automata_of names rules).states list i tokens
         → open_at list i ≡ inner ++ (element ∷ up)
         → row_at tokens (length (element ∷ up)) ≡ rules_by rules d truth element.place }
+{}
+
+/// What `//a[b]` surely selects and may select, worked out by hand. In a small document the first `a` has a
+/// child `b`, which begins with event 4, and the second one has none and finishes with event 10.
+pub fn bounds_of_a_small_document()
+    ensures open_sure { selects_by nested (sure_truth nested nested_events 4) a_with_b (1 ∷ []) ≡ false }
+    ensures open_may { selects_by nested (may_truth nested nested_events 4) a_with_b (1 ∷ []) ≡ true }
+    ensures met_sure { selects_by nested (sure_truth nested nested_events 5) a_with_b (1 ∷ []) ≡ true }
+    ensures unmet_sure { selects_by nested (sure_truth nested nested_events 10) a_with_b (2 ∷ []) ≡ false }
+    ensures unmet_may { selects_by nested (may_truth nested nested_events 10) a_with_b (2 ∷ []) ≡ true }
+    ensures failed_may { selects_by nested (may_truth nested nested_events 11) a_with_b (2 ∷ []) ≡ false }
 {}

@@ -11,8 +11,8 @@ mod sign_laws;
 mod tokens;
 
 pub use bound_laws::{
-    bounds_give_rows, predicates_are_settled, predicates_lie_between_bounds,
-    rules_lie_between_bounds,
+    bounds_give_rows, bounds_of_a_small_document, predicates_are_settled,
+    predicates_lie_between_bounds, rules_lie_between_bounds,
     selection_follows_predicates, selection_lies_between_bounds,
 };
 pub use entry::Entry;
