@@ -171,6 +171,12 @@ module _ (names : List (List ℕ)) (rules : List Rule) (d : Doc) (list : List Ev
         may_rules_shrink i known place n later (sym (ap (λ o. is_member (option_map_or (may_rules rules d list known) o []) n) is) ∙ member);
   }
 
+  -- In rows within the bounds, a rule whose predicates are settled is sure where it is possible.
+  pub settled_row : (i : ℕ) (surely possibly : ℕ → List ℕ) (level : ℕ) (place : List ℕ) (n : ℕ) (rule : Rule) → StandsWithin rules d list i surely possibly
+      → place_of_level (open_at list i) level ≡ Some place → slice_get rules n ≡ Some rule → are_settled d list i rule.path place ≡ true
+      → is_member (possibly level) n ≡ true → is_member (surely level) n ≡ true
+  settled_row i surely possibly level place n rule stand is there settled member = stand.sure level place n is (settled_rule i place n rule there settled (stand.may level place n is member))
+
   -- Right rows at a level, by the place of its element.
   right_sure : (i : ℕ) (surely possibly : ℕ → List ℕ) → Stands rules d (open_at list i) surely possibly → (level : ℕ) (place : List ℕ) (n : ℕ) → place_of_level (open_at list i) level ≡ Some place
       → is_member (surely level) n ≡ true → does_rule_select rules d n place ≡ true

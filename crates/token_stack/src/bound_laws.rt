@@ -23,7 +23,7 @@ ghost use Rattle.acl_walk.specs.Spelling.{Spells};
 ghost use Rattle.acl_walk.specs.declared.event.Event.{Event};
 ghost use Rattle.rule_automata.specs.Compile.{automata_of, have_no_predicates, is_empty_of};
 ghost use Rattle.token_stack.specs.Bounds.{PredicateTruth, model_truth, is_settled, sure_truth, may_truth, IsAtMost, selects_by, are_settled};
-ghost use Rattle.token_stack.specs.Bounds.{rules_by, sure_rules, may_rules, sure_row, may_row, StandsWithin, AreStillOpen, learned_rows};
+ghost use Rattle.token_stack.specs.Bounds.{rules_by, sure_rules, may_rules, place_of_level, sure_row, may_row, StandsWithin, AreStillOpen, learned_rows};
 ghost use Rattle.token_stack.specs.Invariant.{does_rule_select, row_at};
 ghost use Rattle.token_stack.specs.Stack.{TokenStack};
 ghost use Rattle.token_stack.specs.inside.BoundExamples.{a_with_b};
@@ -146,7 +146,8 @@ pub fn rules_lie_between_bounds()
 {}
 
 /// The bounds give rows for each open level. By the first `known` events, from i on, these rows are within
-/// the bounds after the first i events. Rows stay within them where the levels of elements that are still
+/// the bounds after the first i events. In rows within the bounds, a rule whose predicates are settled is in
+/// both sets of a level or in none. Rows stay within the bounds where the levels of elements that are still
 /// open ahead take over rows that are within the bounds there. Where no rule has a predicate, the rows of
 /// tokens that stand at i are those of each truth of predicates.
 pub fn bounds_give_rows()
@@ -155,6 +156,13 @@ pub fn bounds_give_rows()
         → Spells names (Some d) list → i ≤ known
         → StandsWithin rules d list i (sure_row rules d list i known)
         (may_row rules d list i known) }
+    ensures settled { (names : List (List ℕ)) (rules : List Rule) (d : Doc) (list : List Event) (i : ℕ)
+        (surely possibly : ℕ → List ℕ) (level : ℕ) (place : List ℕ) (n : ℕ) (rule : Rule)
+        → length names ≤ most_names → Spells names (Some d) list
+        → StandsWithin rules d list i surely possibly
+        → place_of_level (open_at list i) level ≡ Some place → slice_get rules n ≡ Some rule
+        → are_settled d list i rule.path place ≡ true
+        → is_member (possibly level) n ≡ true → is_member (surely level) n ≡ true }
     ensures learn { (names : List (List ℕ)) (rules : List Rule) (d : Doc) (list : List Event)
         (i ahead level : ℕ) (surely possibly surely_ahead possibly_ahead : ℕ → List ℕ)
         → length names ≤ most_names → Spells names (Some d) list → i ≤ ahead
