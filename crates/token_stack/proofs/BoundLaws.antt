@@ -153,9 +153,9 @@ module _ (d : Doc) (low high : PredicateTruth) (on : List ℕ → Type 0) (up : 
   step_grows s S T to grows = (
     (λ so. so),
     (λ p good so.
-    both_so (leads s.axis T p) (is_kept_by high s p (at d p))
-    (leads_grows s.axis S T p (ancestor_grows S T grows p good) (first_so (leads s.axis S p) (is_kept_by low s p (at d p)) so))
-    (kept_grows s p (at d p) good refl (λ pred e h. to pred p e h good) (second_so (leads s.axis S p) (is_kept_by low s p (at d p)) so))),
+        both_so (leads s.axis T p) (is_kept_by high s p (at d p))
+        (leads_grows s.axis S T p (ancestor_grows S T grows p good) (first_so (leads s.axis S p) (is_kept_by low s p (at d p)) so))
+        (kept_grows s p (at d p) good refl (λ pred e h. to pred p e h good) (second_so (leads s.axis S p) (is_kept_by low s p (at d p)) so))),
   )
 
   steps_grow : (path : List Step) (S T : NodeSet) → GrowsOn d low high on path → SetGrows S T on → SetGrows (steps_by d low path S) (steps_by d high path T) on
@@ -290,7 +290,7 @@ module _ (names : List (List ℕ)) (d : Doc) (list : List Event) (spells : Spell
   true_met bearer e pred i there so settled =
       let c = settled_cases (close d list bearer pred) i settled in
       let some : is_some (find (is_met_at d list bearer pred) (counted (length list))) ≡ true =
-          find_any (is_met_at d list bearer pred) (counted (length list)) (met-is names d list bearer e pred spells there ∙ so) in
+      find_any (is_met_at d list bearer pred) (counted (length list)) (met-is names d list bearer e pred spells there ∙ so) in
       let first = first_is (find (is_met_at d list bearer pred) (counted (length list))) (find (finishes_at list bearer) (counted (length list))) c.0 some c.1 in
       let found = find_has (is_met_at d list bearer pred) (counted (length list)) c.0 first in
       any_so (is_met_at d list bearer pred) (counted i) c.0 (has_counted i c.0 (ltb-true c.0 i c.2)) found.1
@@ -303,7 +303,7 @@ module _ (names : List (List ℕ)) (d : Doc) (list : List Event) (spells : Spell
       let tells = met_so d list bearer pred found.0 found.2 in
       let own : Has (counted (length list)) found.0 = has_counted (length list) found.0 (meets_within list pred.attribute pred.cmp tells.place found.0 tells.x tells.met) in
       let first = found_some (find (is_met_at d list bearer pred) (counted (length list)))
-          (find_any (is_met_at d list bearer pred) (counted (length list)) (any_so (is_met_at d list bearer pred) (counted (length list)) found.0 own found.2)) in
+      (find_any (is_met_at d list bearer pred) (counted (length list)) (any_so (is_met_at d list bearer pred) (counted (length list)) found.0 own found.2)) in
       let before = find_before (is_met_at d list bearer pred) (counted (length list)) first.0 own.0 found.0 first.1 own.1 found.2 in
       let met_index : own.0 ≡ found.0 = number_is (length list) own.0 found.0 own.1 in
       let close_index : before.0 ≡ first.0 = number_is (length list) before.0 first.0 before.2 in

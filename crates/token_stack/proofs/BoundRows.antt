@@ -6,7 +6,7 @@ use Rattle.std.proofs.lemmas.Option.{same_Some, none-some}
 use Rattle.std.specs.List.{list_all, slice_get}
 use Rattle.std.specs.Option.{option_map_or}
 use Rattle.acl_bits.specs.Row.{row_of, is_member}
-use Rattle.acl_bits.specs.inside.RowLaws.{is_member-row_of, is_member-row_of_past, row_of-same}
+use Rattle.acl_bits.specs.inside.RowLaws.{is_member-row_of, is_member-row_of_past, row_of-same, row_of-is_member}
 use Rattle.acl_model.specs.RuleNumbers.{numbers_of}
 use Rattle.acl_model.specs.Dictionary.{are_distinct}
 use Rattle.acl_model.specs.Select.{select}
@@ -20,11 +20,12 @@ use Rattle.acl_walk.specs.declared.event.Event.{Event}
 use Rattle.rule_automata.specs.Compile.{automata_of, have_no_predicates, is_empty_of}
 use Rattle.token_stack.specs.Bounds.{PredicateTruth, sure_truth, may_truth, selects_by, rules_by, sure_rules, may_rules, are_settled, place_of_level, sure_row, may_row, StandsWithin, AreStillOpen, learned_rows}
 use Rattle.token_stack.specs.Invariant.{does_rule_select, Stands, row_at}
+use Rattle.token_stack.specs.SignRows.{IsInOrder}
 use Rattle.token_stack.specs.Stack.{TokenStack}
 use Rattle.token_stack.specs.TokensStand.{TokensStandAt}
 use Rattle.token_stack.proofs.BoundLaws.{all_has, same_by, sure_selected, selected_may, sure_selects_more, may_selects_less, may_sure, settled_sure, settled_may, plain_selects}
 use Rattle.token_stack.proofs.FeedLaws.{standing_rows}
-use Rattle.token_stack.proofs.InvariantLaws.{member_passes, passes_member, selects_within}
+use Rattle.token_stack.proofs.InvariantLaws.{member_passes, passes_member, selects_within, standing_stands}
 
 -- ---- rules by a truth of predicates
 
@@ -223,3 +224,38 @@ module _ (names : List (List ℕ)) (rules : List Rule) (d : Doc) (list : List Ev
         (λ near member. may_rules_shrink i ahead place n later (far.may k place n (sym (still k near) ∙ is) member))
         (λ member. own.may k place n is member);
   }
+
+  level_row : (i : ℕ) (tokens : TokenStack) (truth : PredicateTruth) → are_distinct names ≡ true → length names ≤ 256 → have_no_predicates rules ≡ true
+      → TokensStandAt (automata_of names rules).states list i tokens → (level : ℕ) (place : List ℕ) (n : ℕ) → place_of_level (open_at list i) level ≡ Some place
+      → is_member (rules_by rules d truth place) n ≡ is_member (row_at tokens level) n
+  level_row i tokens truth distinct few plain stand level place n is =
+      let f = level_found (open_at list i) level place is in
+      ap (λ p. is_member (rules_by rules d truth p) n) (sym f.here)
+      ∙ ap (λ row. is_member row n) (sym (plain_row names rules d list i tokens truth f.inner f.element f.up distinct few plain spells stand f.cut))
+      ∙ ap (λ k. is_member (row_at tokens k) n) (sym f.size)
+
+  -- Standing tokens, whose rules have no predicates, have rows within the bounds.
+  pub tokens_within : (i : ℕ) (tokens : TokenStack) → are_distinct names ≡ true → length names ≤ 256 → length rules ≤ 256 → have_no_predicates rules ≡ true
+      → TokensStandAt (automata_of names rules).states list i tokens → StandsWithin rules d list i (row_at tokens) (row_at tokens)
+  tokens_within i tokens distinct few few_rules plain stand = record {
+    right = standing_stands names rules d list i tokens distinct few few_rules plain spells stand;
+    sure = λ level place n is member. sym (level_row i tokens (sure_truth d list i) distinct few plain stand level place n is) ∙ member;
+    may = λ level place n is member. level_row i tokens (may_truth d list i) distinct few plain stand level place n is ∙ member;
+  }
+
+-- ---- order
+
+empty_in_order : IsInOrder []
+unfolding row_of is_member
+empty_in_order = refl
+
+row_in_order : (p : ℕ → Bool) (row : List ℕ) → row ≡ row_of p → IsInOrder row
+row_in_order p row is = is ∙ sym (row_of-is_member p) ∙ ap (λ xs. row_of (is_member xs)) (sym is)
+
+level_in_order : (rules : List Rule) (d : Doc) (truth : PredicateTruth) (o : Option (List ℕ)) → IsInOrder (option_map_or (rules_by rules d truth) o [])
+level_in_order rules d truth None = empty_in_order
+level_in_order rules d truth (Some place) = row_in_order (selected_by rules d truth place) (rules_by rules d truth place) (rules_by-row rules d truth place)
+
+-- The sure rows of the bounds are in order.
+pub sure_row-in_order : (rules : List Rule) (d : Doc) (list : List Event) (i known level : ℕ) → IsInOrder (sure_row rules d list i known level)
+sure_row-in_order rules d list i known level = level_in_order rules d (sure_truth d list known) (place_of_level (open_at list i) level)

@@ -25,6 +25,7 @@ ghost use Rattle.rule_automata.specs.Compile.{automata_of, have_no_predicates, i
 ghost use Rattle.token_stack.specs.Bounds.{PredicateTruth, model_truth, is_settled, sure_truth, may_truth, IsAtMost, selects_by, are_settled};
 ghost use Rattle.token_stack.specs.Bounds.{rules_by, sure_rules, may_rules, place_of_level, sure_row, may_row, StandsWithin, AreStillOpen, learned_rows};
 ghost use Rattle.token_stack.specs.Invariant.{does_rule_select, row_at};
+ghost use Rattle.token_stack.specs.SignRows.{IsInOrder};
 ghost use Rattle.token_stack.specs.Stack.{TokenStack};
 ghost use Rattle.token_stack.specs.inside.BoundExamples.{a_with_b};
 ghost use Rattle.token_stack.specs.TokensStand.{TokensStandAt};
@@ -148,8 +149,8 @@ pub fn rules_lie_between_bounds()
 /// The bounds give rows for each open level. By the first `known` events, from i on, these rows are within
 /// the bounds after the first i events. In rows within the bounds, a rule whose predicates are settled is in
 /// both sets of a level or in none. Rows stay within the bounds where the levels of elements that are still
-/// open ahead take over rows that are within the bounds there. Where no rule has a predicate, the rows of
-/// tokens that stand at i are those of each truth of predicates.
+/// open ahead take over rows that are within the bounds there. The sure rows of the bounds are in order, as
+/// the signs of open elements need it.
 pub fn bounds_give_rows()
     ensures stand { (names : List (List ℕ)) (rules : List Rule) (d : Doc) (list : List Event)
         (i known : ℕ) → length names ≤ most_names → length rules ≤ 256
@@ -170,13 +171,25 @@ pub fn bounds_give_rows()
         → StandsWithin rules d list ahead surely_ahead possibly_ahead
         → StandsWithin rules d list i (learned_rows level surely_ahead surely)
         (learned_rows level possibly_ahead possibly) }
-    ensures plain { (names : List (List ℕ)) (rules : List Rule) (d : Doc) (list : List Event) (i : ℕ)
+    ensures in_order { (rules : List Rule) (d : Doc) (list : List Event) (i known level : ℕ)
+        → IsInOrder (sure_row rules d list i known level) }
+{}
+
+/// Where no rule has a predicate, the rows of tokens that stand at an index of a list are those of each
+/// truth of predicates, and they are within the bounds.
+pub fn standing_tokens_are_within_bounds()
+    ensures rows { (names : List (List ℕ)) (rules : List Rule) (d : Doc) (list : List Event) (i : ℕ)
         (tokens : TokenStack) (truth : PredicateTruth) (inner : List OpenPlace)
         (element : OpenPlace) (up : List OpenPlace) → are_distinct names ≡ true
         → length names ≤ most_names → have_no_predicates rules ≡ true → Spells names (Some d) list
         → TokensStandAt (automata_of names rules).states list i tokens
         → open_at list i ≡ inner ++ (element ∷ up)
         → row_at tokens (length (element ∷ up)) ≡ rules_by rules d truth element.place }
+    ensures within { (names : List (List ℕ)) (rules : List Rule) (d : Doc) (list : List Event) (i : ℕ)
+        (tokens : TokenStack) → are_distinct names ≡ true → length names ≤ most_names
+        → length rules ≤ 256 → have_no_predicates rules ≡ true → Spells names (Some d) list
+        → TokensStandAt (automata_of names rules).states list i tokens
+        → StandsWithin rules d list i (row_at tokens) (row_at tokens) }
 {}
 
 /// What `//a[b]` surely selects and may select, worked out by hand. In a small document the first `a` has a

@@ -12,8 +12,8 @@ mod tokens;
 
 pub use bound_laws::{
     bounds_give_rows, bounds_of_a_small_document, predicates_are_settled,
-    predicates_lie_between_bounds, rules_lie_between_bounds,
-    selection_follows_predicates, selection_lies_between_bounds,
+    predicates_lie_between_bounds, rules_lie_between_bounds, selection_follows_predicates,
+    selection_lies_between_bounds, standing_tokens_are_within_bounds,
 };
 pub use entry::Entry;
 pub use laws::{
