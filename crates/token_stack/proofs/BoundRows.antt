@@ -1,5 +1,5 @@
 -- The rules of each level lie between the bounds, and what a look-ahead learns keeps this.
-use Rattle.std.proofs.Common.{◌≡◌, ◌≤◌, ◌<◌, ◌+◌, ℕ, zero, suc, Bool, true, false, nat_eq, nat_le, Option, Some, None, List, [], ◌∷◌, ◌++◌, length, refl, ap, sym, subst, ◌∙◌, inl, inr, ◌⊎◌, arith, cond}
+use Rattle.std.proofs.Common.{◌≡◌, ◌≤◌, ◌<◌, ◌+◌, ◌-◌, ℕ, zero, suc, Bool, true, false, nat_eq, nat_le, Option, Some, None, List, [], ◌∷◌, ◌++◌, length, take, refl, ap, sym, subst, ◌∙◌, inl, inr, ◌⊎◌, arith, cond}
 use Rattle.std.proofs.lemmas.Bool.{true≢false, cases_lt, eqb-true, ne_eqb, leb-true}
 use Rattle.std.proofs.lemmas.List.{length-append}
 use Rattle.std.proofs.lemmas.Option.{same_Some, none-some}
@@ -14,9 +14,10 @@ use Rattle.acl_model.specs.declared.document.Doc.{Doc}
 use Rattle.acl_model.specs.declared.rule.Rule.{Rule}
 use Rattle.acl_model.proofs.Members.{Has}
 use Rattle.acl_model.proofs.PlaceLaws.{same_number}
-use Rattle.acl_walk.specs.Open.{OpenPlace, open_at}
+use Rattle.acl_walk.specs.Open.{OpenPlace, next_place, with_child, open_after, open_after_events, open_at}
 use Rattle.acl_walk.specs.Spelling.{Spells}
 use Rattle.acl_walk.specs.declared.event.Event.{Event}
+use Rattle.acl_walk.specs.declared.event.Event.TheVariants.{Begin, Attr, HeadEnd, Text, Finish, End}
 use Rattle.rule_automata.specs.Compile.{automata_of, have_no_predicates, is_empty_of}
 use Rattle.token_stack.specs.Bounds.{PredicateTruth, sure_truth, may_truth, selects_by, rules_by, sure_rules, may_rules, are_settled, place_of_level, sure_row, may_row, StandsWithin, AreStillOpen, learned_rows}
 use Rattle.token_stack.specs.Invariant.{does_rule_select, Stands, row_at}
@@ -259,3 +260,63 @@ level_in_order rules d truth (Some place) = row_in_order (selected_by rules d tr
 -- The sure rows of the bounds are in order.
 pub sure_row-in_order : (rules : List Rule) (d : Doc) (list : List Event) (i known level : ℕ) → IsInOrder (sure_row rules d list i known level)
 sure_row-in_order rules d list i known level = level_in_order rules d (sure_truth d list known) (place_of_level (open_at list i) level)
+
+-- ---- elements that stay open
+
+-- one more event
+open-next : (elements : List OpenPlace) (list : List Event) (i : ℕ) (event : Event) → slice_get list i ≡ Some event
+    → open_after_events elements (take (suc i) list) ≡ open_after (open_after_events elements (take i list)) event
+open-next elements [] i event is = absurd (none-some event is)
+open-next elements (x ∷ list) zero event is = ap (open_after elements) (same_Some x event is)
+open-next elements (x ∷ list) (suc i) event is = open-next (open_after elements x) list i event is
+
+open-past : (elements : List OpenPlace) (list : List Event) (i : ℕ) → slice_get list i ≡ None → open_after_events elements (take (suc i) list) ≡ open_after_events elements (take i list)
+open-past elements [] zero is = refl
+open-past elements [] (suc i) is = refl
+open-past elements (x ∷ list) zero is = absurd (none-some x (sym is))
+open-past elements (x ∷ list) (suc i) is = open-past (open_after elements x) list i is
+
+level_with_child : (elements : List OpenPlace) (k : ℕ) → place_of_level (with_child elements) k ≡ place_of_level elements k
+level_with_child [] k = refl
+level_with_child (parent ∷ up) k = refl
+
+length_with_child : (elements : List OpenPlace) → length (with_child elements) ≡ length elements
+length_with_child [] = refl
+length_with_child (parent ∷ up) = refl
+
+-- An event changes no level that is open before and after it.
+level_after : (elements : List OpenPlace) (event : Event) (k : ℕ) → k ≤ length elements → k ≤ length (open_after elements event)
+    → place_of_level (open_after elements event) k ≡ place_of_level elements k
+level_after elements (Begin tag below) k before past =
+    let long : length (with_child elements) ≡ length elements = length_with_child elements in
+    ap (λ b. cond b (Some (next_place elements)) (place_of_level (with_child elements) k)) (other_number k (suc (length (with_child elements))) (omega (arith, long, before)))
+    ∙ level_with_child elements k
+level_after elements (Attr piece) k before past = refl
+level_after elements HeadEnd k before past = refl
+level_after elements (Text piece) k before past = refl
+level_after [] (Finish tag) k before past = refl
+level_after (element ∷ up) (Finish tag) k before past =
+    sym (ap (λ b. cond b (Some element.place) (place_of_level up k)) (other_number k (suc (length up)) (omega (arith, past))))
+level_after elements End k before past = refl
+
+level_next : (list : List Event) (i k : ℕ) (o : Option Event) → slice_get list i ≡ o → k ≤ length (open_at list i) → k ≤ length (open_at list (suc i))
+    → place_of_level (open_at list (suc i)) k ≡ place_of_level (open_at list i) k
+level_next list i k None is before past = ap (λ es. place_of_level es k) (open-past [] list i is)
+level_next list i k (Some event) is before past =
+    let next = open-next [] list i event is in
+    ap (λ es. place_of_level es k) next ∙ level_after (open_at list i) event k before (subst (λ es. k ≤ length es) next past)
+
+-- Where at least so many elements stay open, the elements of these levels do.
+pub still_open : (list : List Event) (i level more : ℕ) → ((j : ℕ) → i ≤ j → j ≤ more + i → level ≤ length (open_at list j)) → AreStillOpen list i (more + i) level
+still_open list i level zero many k near = let same : i ≡ 0 + i = omega arith in ap (λ m. place_of_level (open_at list m) k) same
+still_open list i level (suc more) many k near =
+    let here : level ≤ length (open_at list (more + i)) = many (more + i) (omega arith) (omega arith) in
+    let past : level ≤ length (open_at list (suc (more + i))) = many (suc (more + i)) (omega arith) (omega arith) in
+    still_open list i level more (λ j from to. many j from (omega (arith, to))) k near
+    ∙ sym (level_next list (more + i) k (slice_get list (more + i)) refl (omega (arith, near, here)) (omega (arith, near, past)))
+    ∙ (let same : suc (more + i) ≡ suc more + i = omega arith in ap (λ m. place_of_level (open_at list m) k) same)
+
+pub stay_open : (list : List Event) (i ahead level : ℕ) → i ≤ ahead → ((j : ℕ) → i ≤ j → j ≤ ahead → level ≤ length (open_at list j)) → AreStillOpen list i ahead level
+stay_open list i ahead level later many =
+    let sum : ahead - i + i ≡ ahead = omega (arith, later) in
+    subst (λ m. AreStillOpen list i m level) sum (still_open list i level (ahead - i) (λ j from to. many j from (omega (arith, to, sum))))

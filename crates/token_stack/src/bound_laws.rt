@@ -149,7 +149,8 @@ pub fn rules_lie_between_bounds()
 /// The bounds give rows for each open level. By the first `known` events, from i on, these rows are within
 /// the bounds after the first i events. In rows within the bounds, a rule whose predicates are settled is in
 /// both sets of a level or in none. Rows stay within the bounds where the levels of elements that are still
-/// open ahead take over rows that are within the bounds there. The sure rows of the bounds are in order, as
+/// open ahead take over rows that are within the bounds there. The elements of the levels up to one are
+/// still open ahead if at no index between fewer elements are open. The sure rows of the bounds are in order, as
 /// the signs of open elements need it.
 pub fn bounds_give_rows()
     ensures stand { (names : List (List ℕ)) (rules : List Rule) (d : Doc) (list : List Event)
@@ -171,6 +172,9 @@ pub fn bounds_give_rows()
         → StandsWithin rules d list ahead surely_ahead possibly_ahead
         → StandsWithin rules d list i (learned_rows level surely_ahead surely)
         (learned_rows level possibly_ahead possibly) }
+    ensures still_open { (list : List Event) (i ahead level : ℕ) → i ≤ ahead
+        → ((j : ℕ) → i ≤ j → j ≤ ahead → level ≤ length (open_at list j))
+        → AreStillOpen list i ahead level }
     ensures in_order { (rules : List Rule) (d : Doc) (list : List Event) (i known level : ℕ)
         → IsInOrder (sure_row rules d list i known level) }
 {}
