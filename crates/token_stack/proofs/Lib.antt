@@ -9,3 +9,6 @@ pub mod OpenLaws
 pub mod FeedLaws
 pub mod InvariantLaws
 pub mod SignLaws
+pub mod BoundLaws
+pub mod BoundRows
+pub mod BoundExamples

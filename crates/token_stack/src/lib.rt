@@ -2,6 +2,7 @@
 //! it.
 #![tactic(auto)]
 
+mod bound_laws;
 mod entry;
 mod laws;
 mod moves;
@@ -9,6 +10,11 @@ mod rows;
 mod sign_laws;
 mod tokens;
 
+pub use bound_laws::{
+    bounds_give_rows, bounds_of_a_small_document, predicates_are_settled,
+    predicates_lie_between_bounds, rules_lie_between_bounds, selection_follows_predicates,
+    selection_lies_between_bounds, standing_tokens_are_within_bounds,
+};
 pub use entry::Entry;
 pub use laws::{
     levels_follow_tags, open_elements_stand_in_the_document, rows_have_the_rules_that_select,

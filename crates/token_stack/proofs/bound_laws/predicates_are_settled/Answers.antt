@@ -1,0 +1,11 @@
+-- The laws of BoundLaws.
+use Rattle.token_stack.proofs.BoundLaws.{sure_is, may_is, settled_after, settled_all}
+use Rattle.token_stack.proofs.bound_laws.predicates_are_settled.Goals as goal
+
+pub returns : goal.returns
+returns c = record {
+  sure = λ names d list i bearer e pred few spells. sure_is names d list spells bearer e pred i;
+  may = λ names d list i bearer e pred few spells. may_is names d list spells bearer e pred i;
+  after_finish = λ names d list finish i bearer e pred few spells. settled_after names d list spells bearer e pred finish i;
+  at_end = λ names d list bearer e pred few spells. settled_all names d list spells bearer e pred;
+}
