@@ -37,7 +37,8 @@ Rises : List ℕ → Type 0
 Rises [] = Unit {0}
 Rises (m ∷ members) = (m < 256) × (All (λ n. m < n) members × Rises members)
 
-rises_of : (members : List ℕ) → ((i j : ℕ) (d : ℕ) → i < j → j < length members → get_or members i d < get_or members j d)
+rises_of : (members : List ℕ)
+    → ((i j : ℕ) (d : ℕ) → i < j → j < length members → get_or members i d < get_or members j d)
     → All (λ m. m < 256) members → Rises members
 unfolding Rises
 rises_of [] up small = tt
@@ -56,7 +57,8 @@ row_rises members row = rises_of members (AllPairs-from_increasing members row.r
 -- The first member isn't among the others.
 first_apart : (m : ℕ) (members : List ℕ) → All (λ n. m < n) members → has_member members m ≡ false
 first_apart m members above =
-    list_any_none (λ n. nat_eq n m) members (λ i d within. let more = above i d within in grind (arith, nat_tests, more))
+    list_any_none (λ n. nat_eq n m) members
+    (λ i d within. let more = above i d within in grind (arith, nat_tests, more))
 
 -- How many elements pass a test: the first one, and the others that do.
 count_first : (p : ℕ → Bool) (n : ℕ) (ns : List ℕ) → count_by p (n ∷ ns) ≡ cond (p n) 1 0 + count_by p ns
@@ -186,7 +188,8 @@ set_read [] below bits read test rises row is =
     subst (λ (r : List ℕ × List Bool). SetRead [] below bits r) same
     (record { test = test; row = row; same = λ k small none. refl; spelled = λ none. refl })
 set_read (m ∷ members) below bits read test rises row is =
-    let parts = and_then_some (λ (b : ℕ × List Bool). take_members members (cond (nat_eq b.0 1) (with_number below m) below) b.1)
+    let parts = and_then_some
+    (λ (b : ℕ × List Bool). take_members members (cond (nat_eq b.0 1) (with_number below m) below) b.1)
     (take_bits 1 bits) read is in
     let bit : Bool = nat_eq parts.0.0 1 in
     let one = taken-one bits parts.0 parts.1 in
@@ -270,7 +273,8 @@ regroup : (a b c d : List Bool) → a ++ (b ++ (c ++ d)) ≡ (a ++ (b ++ c)) ++ 
 regroup a b c d = simp append_assoc
 
 head_made : (members : List ℕ) (w tag inner : ℕ) (below : List ℕ) (long : ℕ × List Bool) (bits : List Bool)
-    → true ∷ bits ≡ head_bits members w tag below long.0 ++ long.1 → inner ≡ inner_of below → IsRow below → long.0 < 2 ^ w
+    → true ∷ bits ≡ head_bits members w tag below long.0 ++ long.1 → inner ≡ inner_of below → IsRow below
+    → long.0 < 2 ^ w
     → HeadRead members w (true ∷ bits) (head_with (length members) w tag inner below long).0
     (head_with (length members) w tag inner below long).1
 head_made members w tag inner below long bits spelled same row fits = record {
@@ -369,7 +373,8 @@ bytes_made part bits back fit spelled zeros few =
     let fill : length back ≡ (8 - length bits % 8) % 8 = omega (arith, size, few) in
     let filled : bits_of_bytes part ≡ model.filled_bits bits =
     spelled ∙ ap (λ l. bits ++ l) (zero_bits back zeros ∙ ap (λ n. replicate n false) fill) in
-    let whole : 8 * length part ≡ length (model.filled_bits bits) = sym (length-bits_of_bytes part) ∙ ap length filled in
+    let whole : 8 * length part ≡ length (model.filled_bits bits) =
+    sym (length-bits_of_bytes part) ∙ ap length filled in
     let count : length part ≡ length (model.filled_bits bits) / 8 = omega (arith, whole) in (
       sym (bytes_again part fit) ∙ ap (λ n. model.first_bytes n (bits_of_bytes part)) count
           ∙ ap (model.first_bytes (length (model.filled_bits bits) / 8)) filled,
@@ -397,7 +402,8 @@ head_split : (members : List ℕ) (w tag : ℕ) (below : List ℕ) (long : ℕ) 
 unfolding head_bits front_of
 head_split members w tag below long back =
     sym (ap (λ l. true ∷ l)
-    (regroup (model.bits_of (number_width (length members)) (rank members tag)) (set_bits members below) (model.bits_of w long) back))
+    (regroup (model.bits_of (number_width (length members)) (rank members tag)) (set_bits members below)
+    (model.bits_of w long) back))
     ∙ ap (λ l. front_of members tag ++ (l ++ (model.bits_of w long ++ back))) (set_split members below)
 
 front_long : (members : List ℕ) (tag : ℕ) → length (front_of members tag) ≡ 1 + number_width (length members)
@@ -434,7 +440,8 @@ unfolding head_at inner_at
 head_exact members w left bytes head row fit is =
     let number : ℕ = number_width (length members) in
     let inner = and_then_some
-    (λ (i : ℕ). option_and_then (whole_head members w) (take_within left (head_bytes (length members) number i w) bytes))
+    (λ (i : ℕ). option_and_then (whole_head members w)
+    (take_within left (head_bytes (length members) number i w) bytes))
     (inner_at number left bytes) head is in
     let n : ℕ = head_bytes (length members) number inner.0 w in
     let own = and_then_some (whole_head members w) (take_within left n bytes) head inner.2 in

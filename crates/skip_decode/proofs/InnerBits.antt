@@ -14,7 +14,8 @@ use Rattle.skip_decode.proofs.SpotHeads.{cond_option}
 use Rattle.skip_decode.proofs.Taking.{bits_same, bits_of_bytes-append}
 
 -- Where a function is mapped over an option and there is a value, it is the function's value.
-pub mapped : {A B : Type 0} (f : A → B) (o : Option A) (y : B) → option_map f o ≡ Some y → (x : A) × (o ≡ Some x) × (f x ≡ y)
+pub mapped : {A B : Type 0} (f : A → B) (o : Option A) (y : B) → option_map f o ≡ Some y
+    → (x : A) × (o ≡ Some x) × (f x ≡ y)
 mapped f None y is = absurd (none-some y is)
 mapped f (Some x) y is = (x, refl, same_Some (f x) y is)
 
