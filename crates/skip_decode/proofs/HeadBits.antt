@@ -10,7 +10,7 @@ use Rattle.skip_decode.specs.StreamSteps.{met_with}
 use Rattle.skip_decode.specs.inside.TreeReading.{head_bytes}
 
 -- Bits after a number don't make it less.
-number_after-least : (high : ℕ) (bits : List Bool) → high ≤ number_after high bits
+pub number_after-least : (high : ℕ) (bits : List Bool) → high ≤ number_after high bits
 unfolding number_after
 number_after-least high [] = omega arith
 number_after-least high (true ∷ bits) = let more = number_after-least (2 * high + 1) bits in omega (arith, more)

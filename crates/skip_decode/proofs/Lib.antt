@@ -7,9 +7,11 @@ pub mod ExactRuns
 pub mod FileSteps
 pub mod FileWalkLaws
 pub mod HeadBits
+pub mod HeadExact
 pub mod HeadSteps
 pub mod Heads
 pub mod HeldNames
+pub mod InnerBits
 pub mod Items
 pub mod LevelLaws
 pub mod Loops

@@ -43,6 +43,33 @@ pub few_digits : (n : ℕ) → binary_length n ≤ 32
 unfolding least_width
 few_digits n = few_first (λ w. _) 32 0
 
+-- ---- the parts of `take_head_on`, from the last one on
+
+-- the head whose length was read
+abbrev pub head_with : ℕ → ℕ → ℕ → ℕ → List ℕ → ℕ × List Bool → Head × List Bool
+head_with members w tag inner below long = (
+  record {
+    tag = tag;
+    below = below;
+    long = long.0;
+    bytes = head_bytes members (binary_length (members - 1)) inner w;
+  },
+  long.1,
+)
+
+abbrev pub from_below : ℕ → ℕ → ℕ → ℕ → List ℕ × List Bool → Option (Head × List Bool)
+from_below members w tag inner below = option_map (head_with members w tag inner below.0) (take_bits w below.1)
+
+abbrev pub from_inner : List ℕ → ℕ → ℕ → ℕ × List Bool → Option (Head × List Bool)
+from_inner members w tag inner =
+    option_and_then (from_below (length members) w tag inner.0) (take_below members inner.0 inner.1)
+
+abbrev pub from_tag : List ℕ → ℕ → List Bool → ℕ → Option (Head × List Bool)
+from_tag members w bits tag = option_and_then (from_inner members w tag) (take_bits 1 bits)
+
+abbrev pub from_number : List ℕ → ℕ → ℕ × List Bool → Option (Head × List Bool)
+from_number members w number = option_and_then (from_tag members w number.1) (slice_get members number.0)
+
 -- ---- what is true of the members of a set
 
 module _ (P : ℕ → Type 0) where
@@ -120,31 +147,6 @@ module _ (P : ℕ → Type 0) where
   get_so : (members : List ℕ) (i n : ℕ) → All P members → slice_get members i ≡ Some n → P n
   get_so members i n all is =
       subst P (get_or_from_slice_get members i n n is) (all i n (slice_get_within members i n is))
-
-  -- the parts of take_head_on, from the last one on
-  abbrev head_with : ℕ → ℕ → ℕ → ℕ → List ℕ → ℕ × List Bool → Head × List Bool
-  head_with members w tag inner below long = (
-    record {
-      tag = tag;
-      below = below;
-      long = long.0;
-      bytes = head_bytes members (binary_length (members - 1)) inner w;
-    },
-    long.1,
-  )
-
-  abbrev from_below : ℕ → ℕ → ℕ → ℕ → List ℕ × List Bool → Option (Head × List Bool)
-  from_below members w tag inner below = option_map (head_with members w tag inner below.0) (take_bits w below.1)
-
-  abbrev from_inner : List ℕ → ℕ → ℕ → ℕ × List Bool → Option (Head × List Bool)
-  from_inner members w tag inner =
-      option_and_then (from_below (length members) w tag inner.0) (take_below members inner.0 inner.1)
-
-  abbrev from_tag : List ℕ → ℕ → List Bool → ℕ → Option (Head × List Bool)
-  from_tag members w bits tag = option_and_then (from_inner members w tag) (take_bits 1 bits)
-
-  abbrev from_number : List ℕ → ℕ → ℕ × List Bool → Option (Head × List Bool)
-  from_number members w number = option_and_then (from_tag members w number.1) (slice_get members number.0)
 
   map_some : {A B : Type 0} (f : A → B) (o : Option A) (y : B) → option_map f o ≡ Some y → (x : A) × (f x ≡ y)
   map_some f None y is = absurd (none-some y is)

@@ -73,12 +73,12 @@ take_attributes-prefix (raw ∷ raws) back fits =
 
 -- ---- the definitions on bits in `acl_model` and `acl_bits` are the same
 
-bits_same : (n value : ℕ) → model.bits_of n value ≡ bits_of n value
+pub bits_same : (n value : ℕ) → model.bits_of n value ≡ bits_of n value
 unfolding model.bits_of bits_of
 bits_same zero value = refl
 bits_same (suc n) value = ap (λ l. has_bit value n ∷ l) (bits_same n value)
 
-number_same : (high : ℕ) (bits : List Bool) → model.number_after high bits ≡ number_after high bits
+pub number_same : (high : ℕ) (bits : List Bool) → model.number_after high bits ≡ number_after high bits
 unfolding model.number_after number_after
 number_same high [] = refl
 number_same high (true ∷ bits) = number_same (2 * high + 1) bits

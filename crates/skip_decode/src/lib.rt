@@ -30,7 +30,8 @@ pub use fragments::Fragments;
 pub use laws::{a_stream_is_of_one_document, a_tree_is_read_again};
 pub use spot::SkipSpot;
 pub use stream_laws::{
-    positions_move_along_the_events, small_streams_are_read, streams_spell_documents,
+    heads_have_one_spelling, positions_move_along_the_events, small_streams_are_read,
+    streams_spell_documents,
 };
 pub use walk::SkipWalk;
 

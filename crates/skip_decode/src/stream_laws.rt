@@ -1,10 +1,13 @@
 //! Laws on the events that a document's stream is read as. These functions do nothing: their
 //! contracts are the laws.
 
-ghost use Rattle.std.specs.Prelude.{◌≡◌, ℕ, true, Some, is_some, drop};
+ghost use Rattle.std.specs.Prelude.{◌≡◌, ℕ, ◌^◌, ◌<◌, ◌≤◌, true, Some, is_some, List, length};
+ghost use Rattle.std.specs.Prelude.{take, drop, All};
+ghost use Rattle.acl_bits.specs.Row.{IsRow, is_member};
 ghost use Rattle.acl_model.specs.Dictionary.{dictionary};
 ghost use Rattle.acl_model.specs.Document.{is_document};
-ghost use Rattle.acl_model.specs.Stream.{has_stream, plain};
+ghost use Rattle.acl_model.specs.Stream.{has_stream, head_bits, plain};
+ghost use Rattle.acl_model.specs.StreamBits.{bytes_of};
 ghost use Rattle.acl_model.specs.declared.document.Doc.{Doc};
 ghost use Rattle.acl_model.specs.inside.StreamExamples.{one_text, one_child, two_children};
 ghost use Rattle.acl_walk.specs.SpotMoves.{place_after, StandsAt, PassesTo};
@@ -13,9 +16,11 @@ ghost use Rattle.skip_decode.specs.ExactSets.{HaveExactSets};
 ghost use Rattle.skip_decode.specs.Positions.{Position, first_position, tags_of, passed};
 ghost use Rattle.skip_decode.specs.StreamEvents.{numbers_of, stream_events, events_from};
 ghost use Rattle.skip_decode.specs.StreamEvents.{StandsAtEvent};
+ghost use Rattle.skip_decode.specs.StreamHeads.{head_at};
 ghost use Rattle.skip_decode.specs.StreamSteps.{Step, step_at, position_after};
 ghost use Rattle.skip_decode.specs.inside.SmallStreams.{one_text_events, one_child_events};
 ghost use Rattle.skip_decode.specs.inside.SmallStreams.{two_children_events};
+ghost use Rattle.skip_decode.specs.declared.head.Head.{Head};
 
 /// The events that a document's stream is read as spell the document, and the set of each Begin is
 /// exact.
@@ -46,6 +51,32 @@ pub fn positions_move_along_the_events()
         → is_document d ≡ true → has_stream d ≡ true → StandsAtEvent d position i
         → (j : ℕ) × StandsAtEvent d (passed position) j
         × PassesTo (tags_of position) (stream_events d) i j }
+{}
+
+/// A head that is read has exactly the bytes that the encoder writes for its tag, tag set and
+/// length. The tag and the members of its tag set are members of the parent's tag set.
+pub fn heads_have_one_spelling()
+    ensures spelled { (members : List ℕ) (w left : ℕ) (bytes : List ℕ) (head : Head)
+        → IsRow members → All (λ b. b < 256) bytes
+        → head_at members w left bytes ≡ Some head
+        → take head.bytes bytes
+        ≡ bytes_of (head_bits members w head.tag head.below head.long) }
+    ensures counted { (members : List ℕ) (w left : ℕ) (bytes : List ℕ) (head : Head)
+        → IsRow members → All (λ b. b < 256) bytes
+        → head_at members w left bytes ≡ Some head
+        → head.bytes ≡ length (bytes_of (head_bits members w head.tag head.below head.long)) }
+    ensures sizes { (members : List ℕ) (w left : ℕ) (bytes : List ℕ) (head : Head)
+        → IsRow members → All (λ b. b < 256) bytes
+        → head_at members w left bytes ≡ Some head
+        → (head.bytes ≤ left) × (head.long < 2 ^ w) }
+    ensures tag { (members : List ℕ) (w left : ℕ) (bytes : List ℕ) (head : Head)
+        → IsRow members → All (λ b. b < 256) bytes
+        → head_at members w left bytes ≡ Some head
+        → is_member members head.tag ≡ true }
+    ensures below { (members : List ℕ) (w left : ℕ) (bytes : List ℕ) (head : Head)
+        → IsRow members → All (λ b. b < 256) bytes
+        → head_at members w left bytes ≡ Some head
+        → IsRow head.below × All (λ n. is_member members n ≡ true) head.below }
 {}
 
 /// The events of three small documents, worked out by hand.
