@@ -13,7 +13,7 @@ use Rattle.acl_walk.specs.Begun.{begins_at}
 use Rattle.acl_walk.specs.Closes.{counted, meets, is_met_at, close}
 use Rattle.acl_walk.specs.inside.CloseExamples.{to_child, nested_b, nested_a, empty_a, nested, nested_events, has_b}
 use Rattle.acl_walk.proofs.CloseExamples.{close-nested_begin, close-own_finish}
-use Rattle.token_stack.specs.Bounds.{PredicateTruth, is_met, is_settled, sure_truth, may_truth, selects_by, is_kept_by}
+use Rattle.token_stack.specs.Bounds.{PredicateTruth, first_events, is_met, is_settled, sure_truth, may_truth, selects_by, is_kept_by}
 use Rattle.token_stack.specs.inside.BoundExamples.{step_a_with_b, a_with_b}
 
 any_same : (p q : ℕ → Bool) (xs : List ℕ) → ((x : ℕ) → p x ≡ q x) → list_any p xs ≡ list_any q xs
@@ -84,29 +84,29 @@ second_selected : (truth : PredicateTruth) → selects_by nested truth a_with_b 
 unfolding selects_by
 second_selected truth = ap (is_kept_by truth step_a_with_b (2 ∷ [])) second_at ∙ and_true (truth (2 ∷ []) has_b)
 
-pub open_sure : selects_by nested (sure_truth nested nested_events 4) a_with_b (1 ∷ []) ≡ false
-open_sure = first_selected (sure_truth nested nested_events 4) ∙ first_is_met 4
+pub open_sure : selects_by nested (sure_truth nested nested_events (first_events 4)) a_with_b (1 ∷ []) ≡ false
+open_sure = first_selected (sure_truth nested nested_events (first_events 4)) ∙ first_is_met 4
 
-pub open_may : selects_by nested (may_truth nested nested_events 4) a_with_b (1 ∷ []) ≡ true
+pub open_may : selects_by nested (may_truth nested nested_events (first_events 4)) a_with_b (1 ∷ []) ≡ true
 open_may =
-    first_selected (may_truth nested nested_events 4)
+    first_selected (may_truth nested nested_events (first_events 4))
     ∙ ap (λ b. b || not (is_settled nested nested_events 4 (1 ∷ []) has_b)) (first_is_met 4)
     ∙ ap (λ o. not (option_map_or (λ index. nat_lt index 4) o false)) close-nested_begin
 
-pub met_sure : selects_by nested (sure_truth nested nested_events 5) a_with_b (1 ∷ []) ≡ true
-met_sure = first_selected (sure_truth nested nested_events 5) ∙ first_is_met 5
+pub met_sure : selects_by nested (sure_truth nested nested_events (first_events 5)) a_with_b (1 ∷ []) ≡ true
+met_sure = first_selected (sure_truth nested nested_events (first_events 5)) ∙ first_is_met 5
 
-pub unmet_sure : selects_by nested (sure_truth nested nested_events 10) a_with_b (2 ∷ []) ≡ false
-unmet_sure = second_selected (sure_truth nested nested_events 10) ∙ second_is_met 10
+pub unmet_sure : selects_by nested (sure_truth nested nested_events (first_events 10)) a_with_b (2 ∷ []) ≡ false
+unmet_sure = second_selected (sure_truth nested nested_events (first_events 10)) ∙ second_is_met 10
 
-pub unmet_may : selects_by nested (may_truth nested nested_events 10) a_with_b (2 ∷ []) ≡ true
+pub unmet_may : selects_by nested (may_truth nested nested_events (first_events 10)) a_with_b (2 ∷ []) ≡ true
 unmet_may =
-    second_selected (may_truth nested nested_events 10)
+    second_selected (may_truth nested nested_events (first_events 10))
     ∙ ap (λ b. b || not (is_settled nested nested_events 10 (2 ∷ []) has_b)) (second_is_met 10)
     ∙ ap (λ o. not (option_map_or (λ index. nat_lt index 10) o false)) close-own_finish
 
-pub failed_may : selects_by nested (may_truth nested nested_events 11) a_with_b (2 ∷ []) ≡ false
+pub failed_may : selects_by nested (may_truth nested nested_events (first_events 11)) a_with_b (2 ∷ []) ≡ false
 failed_may =
-    second_selected (may_truth nested nested_events 11)
+    second_selected (may_truth nested nested_events (first_events 11))
     ∙ ap (λ b. b || not (is_settled nested nested_events 11 (2 ∷ []) has_b)) (second_is_met 11)
     ∙ ap (λ o. not (option_map_or (λ index. nat_lt index 11) o false)) close-own_finish

@@ -30,7 +30,7 @@ use Rattle.acl_walk.proofs.BegunLaws.{stands_in_list}
 use Rattle.acl_walk.proofs.CloseLaws.{close-some, close-within, close-inside}
 use Rattle.acl_walk.proofs.MeetLaws.{both_so, any_found, any_so, find_any, find_has, has_map, has_map_cases, has_counted, counted_within, event_within, met_so, met-is}
 use Rattle.rule_automata.specs.Compile.{is_empty_of}
-use Rattle.token_stack.specs.Bounds.{is_met, is_settled, PredicateTruth, model_truth, sure_truth, may_truth, IsAtMost, keeps_by, is_kept_by, step_by, steps_by, selects_by, is_step_settled, are_settled}
+use Rattle.token_stack.specs.Bounds.{is_met, is_settled, PredicateTruth, Knowledge, KnowsNoLess, model_truth, sure_truth, may_truth, IsAtMost, keeps_by, is_kept_by, step_by, steps_by, selects_by, is_step_settled, are_settled}
 
 -- ---- tests
 
@@ -173,6 +173,31 @@ pub selects_grow : (d : Doc) (low high : PredicateTruth) (path : Path) (place : 
 selects_grow d low high path place most so =
     selects_grow_on d low high (λ p. Unit {0}) (λ p q good h. tt) path place (λ s pred p e has mine good there passed. most p e pred there) tt so
 
+-- It is enough that the truth grows at the element and its ancestors.
+pub selects_grow_above : (d : Doc) (low high : PredicateTruth) (path : Path) (place : List ℕ)
+    → ((p : List ℕ) (pred : Pred) → Has (prefixes place) p → low p pred ≡ true → high p pred ≡ true)
+    → selects_by d low path place ≡ true → selects_by d high path place ≡ true
+selects_grow_above d low high path place to so =
+    selects_grow_on d low high (λ p. Has (prefixes place) p) (λ p q above h. prefix_of_prefix place p q above h) path place
+    (λ s pred p e has mine above there passed. to p pred above) (own_prefix place) so
+
+-- A prefix is no longer than the place.
+pub prefix_short : (place p : List ℕ) → Has (prefixes place) p → length p ≤ length place
+prefix_short [] p h = elim (has_cases [] p [] h) [
+  | inl same ↦ subst (λ (q : List ℕ). length q ≤ 0) same (omega arith)
+  | inr later ↦ absurd (has_none p later)
+]
+prefix_short (k ∷ place) p h = elim (has_append_cases (map (λ r. k ∷ r) (prefixes place)) ([] ∷ []) p h) [
+  | inl longer ↦
+      let inner = has_map_cases (λ r. k ∷ r) (prefixes place) p longer in
+      let short : length inner.0 ≤ length place = prefix_short place inner.0 inner.1 in
+      subst (λ (q : List ℕ). length q ≤ length (k ∷ place)) inner.2 (omega (arith, short))
+  | inr root ↦ elim (has_cases [] p [] root) [
+    | inl same ↦ subst (λ (q : List ℕ). length q ≤ length (k ∷ place)) same (omega arith)
+    | inr later ↦ absurd (has_none p later)
+  ]
+]
+
 -- ---- by the model's truth a path selects what it selects
 
 leads_same : (axis : Axis) (S T : NodeSet) (place : List ℕ) → ((node : Node) → S node ≡ T node) → leads axis S place ≡ leads axis T place
@@ -312,13 +337,20 @@ module _ (names : List (List ℕ)) (d : Doc) (list : List Event) (spells : Spell
       ∙ lt-ltb first.0 i (omega (arith, met_index, close_index, order, less))
 
   -- A predicate is surely true where it is true and settled, and may be true where it is true or not settled.
-  pub sure_is : (bearer : List ℕ) (e : Element) (pred : Pred) (i : ℕ) → at d bearer ≡ Some e → sure_truth d list i bearer pred ≡ (is_settled d list i bearer pred && holds pred e)
-  sure_is bearer e pred i there = same_by (is_met d list i bearer pred) (is_settled d list i bearer pred && holds pred e)
+  met_is : (bearer : List ℕ) (e : Element) (pred : Pred) (i : ℕ) → at d bearer ≡ Some e → is_met d list i bearer pred ≡ (is_settled d list i bearer pred && holds pred e)
+  met_is bearer e pred i there = same_by (is_met d list i bearer pred) (is_settled d list i bearer pred && holds pred e)
       (λ met. both_so (is_settled d list i bearer pred) (holds pred e) (met_settled bearer pred i met) (event_holds bearer e pred i there met))
       (λ so. true_met bearer e pred i there (second_so (is_settled d list i bearer pred) (holds pred e) so) (first_so (is_settled d list i bearer pred) (holds pred e) so))
 
-  pub may_is : (bearer : List ℕ) (e : Element) (pred : Pred) (i : ℕ) → at d bearer ≡ Some e → may_truth d list i bearer pred ≡ (not (is_settled d list i bearer pred) || holds pred e)
-  may_is bearer e pred i there = ap (λ b. b || not (is_settled d list i bearer pred)) (sure_is bearer e pred i there) ∙ by_cases (is_settled d list i bearer pred) (holds pred e)
+  pub sure_is : (bearer : List ℕ) (e : Element) (pred : Pred) (known : Knowledge) → at d bearer ≡ Some e
+      → sure_truth d list known bearer pred ≡ (is_settled d list (known bearer) bearer pred && holds pred e)
+  sure_is bearer e pred known there = met_is bearer e pred (known bearer) there
+
+  pub may_is : (bearer : List ℕ) (e : Element) (pred : Pred) (known : Knowledge) → at d bearer ≡ Some e
+      → may_truth d list known bearer pred ≡ (not (is_settled d list (known bearer) bearer pred) || holds pred e)
+  may_is bearer e pred known there =
+      ap (λ b. b || not (is_settled d list (known bearer) bearer pred)) (met_is bearer e pred (known bearer) there)
+      ∙ by_cases (is_settled d list (known bearer) bearer pred) (holds pred e)
 
   -- After its bearer's Finish a predicate is settled, and with all events each is.
   pub settled_after : (bearer : List ℕ) (e : Element) (pred : Pred) (finish i : ℕ) → at d bearer ≡ Some e → finishes_at list bearer finish ≡ true → finish < i → is_settled d list i bearer pred ≡ true
@@ -334,73 +366,80 @@ module _ (names : List (List ℕ)) (d : Doc) (list : List Event) (spells : Spell
       ap (λ o. option_map_or (λ index. nat_lt index (length list)) o false) c.1 ∙ lt-ltb c.0 (length list) (close-within d list bearer pred c.0 c.1)
 
   -- The sure truth is at most the model's, and that at most what may be true.
-  pub sure_at_most : (i : ℕ) → IsAtMost d (sure_truth d list i) (model_truth d)
-  sure_at_most i bearer e pred there so = model_holds d bearer e pred there ∙ event_holds bearer e pred i there so
+  pub sure_at_most : (known : Knowledge) → IsAtMost d (sure_truth d list known) (model_truth d)
+  sure_at_most known bearer e pred there so = model_holds d bearer e pred there ∙ event_holds bearer e pred (known bearer) there so
 
-  pub may_at_least : (i : ℕ) → IsAtMost d (model_truth d) (may_truth d list i)
-  may_at_least i bearer e pred there so = elim (either (is_settled d list i bearer pred)) [
-    | inl un ↦ right_so (is_met d list i bearer pred) (not (is_settled d list i bearer pred)) un
-    | inr settled ↦ left_so (is_met d list i bearer pred) (not (is_settled d list i bearer pred))
-        (true_met bearer e pred i there (sym (model_holds d bearer e pred there) ∙ so) settled)
+  pub may_at_least : (known : Knowledge) → IsAtMost d (model_truth d) (may_truth d list known)
+  may_at_least known bearer e pred there so = elim (either (is_settled d list (known bearer) bearer pred)) [
+    | inl un ↦ right_so (is_met d list (known bearer) bearer pred) (not (is_settled d list (known bearer) bearer pred)) un
+    | inr settled ↦ left_so (is_met d list (known bearer) bearer pred) (not (is_settled d list (known bearer) bearer pred))
+        (true_met bearer e pred (known bearer) there (sym (model_holds d bearer e pred there) ∙ so) settled)
   ]
 
-  -- With more events more is surely true, and less may be.
-  pub sure_grows : (i j : ℕ) → i ≤ j → IsAtMost d (sure_truth d list i) (sure_truth d list j)
-  sure_grows i j later bearer e pred there so = met_stays d list i j bearer pred later so
+  -- Where more is known, more is surely true, and less may be.
+  pub sure_grows : (known more : Knowledge) → KnowsNoLess known more → IsAtMost d (sure_truth d list known) (sure_truth d list more)
+  sure_grows known more later bearer e pred there so = met_stays d list (known bearer) (more bearer) bearer pred (later bearer) so
 
-  pub may_shrinks : (i j : ℕ) → i ≤ j → IsAtMost d (may_truth d list j) (may_truth d list i)
-  may_shrinks i j later bearer e pred there so = elim (either (is_settled d list i bearer pred)) [
-    | inl un ↦ right_so (is_met d list i bearer pred) (not (is_settled d list i bearer pred)) un
-    | inr settled ↦ left_so (is_met d list i bearer pred) (not (is_settled d list i bearer pred))
-        (elim (or_cases (is_met d list j bearer pred) (not (is_settled d list j bearer pred)) so) [
-          | inl met ↦ true_met bearer e pred i there (event_holds bearer e pred j there met) settled
-          | inr un ↦ absurd (not_so (is_settled d list j bearer pred) un (settled_stays d list i j bearer pred later settled))
+  pub may_shrinks : (known more : Knowledge) → KnowsNoLess known more → IsAtMost d (may_truth d list more) (may_truth d list known)
+  may_shrinks known more later bearer e pred there so = elim (either (is_settled d list (known bearer) bearer pred)) [
+    | inl un ↦ right_so (is_met d list (known bearer) bearer pred) (not (is_settled d list (known bearer) bearer pred)) un
+    | inr settled ↦ left_so (is_met d list (known bearer) bearer pred) (not (is_settled d list (known bearer) bearer pred))
+        (elim (or_cases (is_met d list (more bearer) bearer pred) (not (is_settled d list (more bearer) bearer pred)) so) [
+          | inl met ↦ true_met bearer e pred (known bearer) there (event_holds bearer e pred (more bearer) there met) settled
+          | inr un ↦ absurd (not_so (is_settled d list (more bearer) bearer pred) un
+              (settled_stays d list (known bearer) (more bearer) bearer pred (later bearer) settled))
         ])
   ]
 
   -- ---- selection
 
   -- Of these three, each selects at most what the next does: by what is sure, by the model, by what may be.
-  pub sure_selected : (i : ℕ) (path : Path) (place : List ℕ) → selects_by d (sure_truth d list i) path place ≡ true → select d path place ≡ true
-  sure_selected i path place so = sym (selects_by-model d path place) ∙ selects_grow d (sure_truth d list i) (model_truth d) path place (sure_at_most i) so
+  pub sure_selected : (known : Knowledge) (path : Path) (place : List ℕ) → selects_by d (sure_truth d list known) path place ≡ true → select d path place ≡ true
+  sure_selected known path place so =
+      sym (selects_by-model d path place) ∙ selects_grow d (sure_truth d list known) (model_truth d) path place (sure_at_most known) so
 
-  pub selected_may : (i : ℕ) (path : Path) (place : List ℕ) → select d path place ≡ true → selects_by d (may_truth d list i) path place ≡ true
-  selected_may i path place so = selects_grow d (model_truth d) (may_truth d list i) path place (may_at_least i) (selects_by-model d path place ∙ so)
+  pub selected_may : (known : Knowledge) (path : Path) (place : List ℕ) → select d path place ≡ true → selects_by d (may_truth d list known) path place ≡ true
+  selected_may known path place so =
+      selects_grow d (model_truth d) (may_truth d list known) path place (may_at_least known) (selects_by-model d path place ∙ so)
 
-  pub sure_selects_more : (i j : ℕ) (path : Path) (place : List ℕ) → i ≤ j → selects_by d (sure_truth d list i) path place ≡ true → selects_by d (sure_truth d list j) path place ≡ true
-  sure_selects_more i j path place later so = selects_grow d (sure_truth d list i) (sure_truth d list j) path place (sure_grows i j later) so
+  pub sure_selects_more : (known more : Knowledge) (path : Path) (place : List ℕ) → KnowsNoLess known more
+      → selects_by d (sure_truth d list known) path place ≡ true → selects_by d (sure_truth d list more) path place ≡ true
+  sure_selects_more known more path place later so =
+      selects_grow d (sure_truth d list known) (sure_truth d list more) path place (sure_grows known more later) so
 
-  pub may_selects_less : (i j : ℕ) (path : Path) (place : List ℕ) → i ≤ j → selects_by d (may_truth d list j) path place ≡ true → selects_by d (may_truth d list i) path place ≡ true
-  may_selects_less i j path place later so = selects_grow d (may_truth d list j) (may_truth d list i) path place (may_shrinks i j later) so
+  pub may_selects_less : (known more : Knowledge) (path : Path) (place : List ℕ) → KnowsNoLess known more
+      → selects_by d (may_truth d list more) path place ≡ true → selects_by d (may_truth d list known) path place ≡ true
+  may_selects_less known more path place later so =
+      selects_grow d (may_truth d list more) (may_truth d list known) path place (may_shrinks known more later) so
 
-  step_settled : (i : ℕ) (s : Step) (p : List ℕ) (o : Option Element) (e : Element) → o ≡ Some e → passes s.test e.name ≡ true → is_step_settled d list i p s o ≡ true → list_all (is_settled d list i p) s.preds ≡ true
-  step_settled i s p None e is passed so = absurd (none-some e is)
-  step_settled i s p (Some x) e is passed so = elim (or_cases (not (passes s.test x.name)) (list_all (is_settled d list i p) s.preds) so) [
+  step_settled : (known : Knowledge) (s : Step) (p : List ℕ) (o : Option Element) (e : Element) → o ≡ Some e → passes s.test e.name ≡ true → is_step_settled d list known p s o ≡ true → list_all (is_settled d list (known p) p) s.preds ≡ true
+  step_settled known s p None e is passed so = absurd (none-some e is)
+  step_settled known s p (Some x) e is passed so = elim (or_cases (not (passes s.test x.name)) (list_all (is_settled d list (known p) p) s.preds) so) [
     | inl fails ↦ absurd (not_so (passes s.test x.name) fails (ap (λ y. passes s.test y.name) (same_Some x e is) ∙ passed))
     | inr settled ↦ settled
   ]
 
   -- Where a path's predicates are settled at an element and its ancestors, what may select it does so surely.
-  pub may_sure : (i : ℕ) (path : Path) (place : List ℕ) → are_settled d list i path place ≡ true → selects_by d (may_truth d list i) path place ≡ true → selects_by d (sure_truth d list i) path place ≡ true
-  may_sure i path place settled so =
-      selects_grow_on d (may_truth d list i) (sure_truth d list i) (λ p. Has (prefixes place) p) (λ p q above h. prefix_of_prefix place p q above h) path place
-      (λ s pred p e has mine above there passed may. elim (or_cases (is_met d list i p pred) (not (is_settled d list i p pred)) may) [
+  pub may_sure : (known : Knowledge) (path : Path) (place : List ℕ) → are_settled d list known path place ≡ true → selects_by d (may_truth d list known) path place ≡ true → selects_by d (sure_truth d list known) path place ≡ true
+  may_sure known path place settled so =
+      selects_grow_on d (may_truth d list known) (sure_truth d list known) (λ p. Has (prefixes place) p) (λ p q above h. prefix_of_prefix place p q above h) path place
+      (λ s pred p e has mine above there passed may. elim (or_cases (is_met d list (known p) p pred) (not (is_settled d list (known p) p pred)) may) [
         | inl met ↦ met
-        | inr un ↦ absurd (not_so (is_settled d list i p pred) un
-            (all_has (is_settled d list i p) s.preds pred
-            (step_settled i s p (at d p) e there passed
-            (all_has (λ t. is_step_settled d list i p t (at d p)) path.steps s
-            (all_has (λ b. list_all (λ t. is_step_settled d list i b t (at d b)) path.steps) (prefixes place) p settled above) has)) mine))
+        | inr un ↦ absurd (not_so (is_settled d list (known p) p pred) un
+            (all_has (is_settled d list (known p) p) s.preds pred
+            (step_settled known s p (at d p) e there passed
+            (all_has (λ t. is_step_settled d list known p t (at d p)) path.steps s
+            (all_has (λ b. list_all (λ t. is_step_settled d list known b t (at d b)) path.steps) (prefixes place) p settled above) has)) mine))
       ])
       (own_prefix place) so
 
-  pub settled_sure : (i : ℕ) (path : Path) (place : List ℕ) → are_settled d list i path place ≡ true → selects_by d (sure_truth d list i) path place ≡ select d path place
-  settled_sure i path place settled = same_by (selects_by d (sure_truth d list i) path place) (select d path place)
-      (sure_selected i path place) (λ so. may_sure i path place settled (selected_may i path place so))
+  pub settled_sure : (known : Knowledge) (path : Path) (place : List ℕ) → are_settled d list known path place ≡ true → selects_by d (sure_truth d list known) path place ≡ select d path place
+  settled_sure known path place settled = same_by (selects_by d (sure_truth d list known) path place) (select d path place)
+      (sure_selected known path place) (λ so. may_sure known path place settled (selected_may known path place so))
 
-  pub settled_may : (i : ℕ) (path : Path) (place : List ℕ) → are_settled d list i path place ≡ true → selects_by d (may_truth d list i) path place ≡ select d path place
-  settled_may i path place settled = same_by (selects_by d (may_truth d list i) path place) (select d path place)
-      (λ so. sure_selected i path place (may_sure i path place settled so)) (selected_may i path place)
+  pub settled_may : (known : Knowledge) (path : Path) (place : List ℕ) → are_settled d list known path place ≡ true → selects_by d (may_truth d list known) path place ≡ select d path place
+  settled_may known path place settled = same_by (selects_by d (may_truth d list known) path place) (select d path place)
+      (λ so. sure_selected known path place (may_sure known path place settled so)) (selected_may known path place)
 
 -- ---- paths without predicates
 

@@ -1,6 +1,8 @@
--- The rules of each level lie between the bounds, and what a look-ahead learns keeps this.
-use Rattle.std.proofs.Common.{◌≡◌, ◌≤◌, ◌<◌, ◌+◌, ◌-◌, ℕ, zero, suc, Bool, true, false, nat_eq, nat_le, Option, Some, None, List, [], ◌∷◌, ◌++◌, length, take, refl, ap, sym, subst, ◌∙◌, inl, inr, ◌⊎◌, arith, cond}
-use Rattle.std.proofs.lemmas.Bool.{true≢false, cases_lt, eqb-true, ne_eqb, leb-true}
+-- The rules of each level lie between the bounds, and a look-ahead gives more of what is known.
+use Rattle.std.proofs.Common.{◌≡◌, ◌≤◌, ◌<◌, ◌+◌, ◌-◌, ℕ, zero, suc, Bool, true, false, nat_eq, nat_lt, not, ◌&&◌, ◌||◌, Option, Some, None, List, [], ◌∷◌, ◌++◌, length, take, refl, ap, sym, subst, ◌∙◌, inl, inr, ◌⊎◌, arith, cond}
+use Rattle.std.proofs.lemmas.Bool.{true≢false, cases_lt, eqb-true, ne_eqb, lt-ltb, ltb-true}
+use Rattle.std.proofs.lemmas.Bool.Decides.{nat_tests}
+use Rattle.std.specs.Cmp.{second_so}
 use Rattle.std.proofs.lemmas.List.{length-append}
 use Rattle.std.proofs.lemmas.Option.{same_Some, none-some}
 use Rattle.std.specs.List.{list_all, slice_get}
@@ -9,8 +11,10 @@ use Rattle.acl_bits.specs.Row.{row_of, is_member}
 use Rattle.acl_bits.specs.inside.RowLaws.{is_member-row_of, is_member-row_of_past, row_of-same, row_of-is_member}
 use Rattle.acl_model.specs.RuleNumbers.{numbers_of}
 use Rattle.acl_model.specs.Dictionary.{are_distinct}
+use Rattle.acl_model.specs.Places.{prefixes}
 use Rattle.acl_model.specs.Select.{select}
 use Rattle.acl_model.specs.declared.document.Doc.{Doc}
+use Rattle.acl_model.specs.declared.path.Pred.{Pred}
 use Rattle.acl_model.specs.declared.rule.Rule.{Rule}
 use Rattle.acl_model.proofs.Members.{Has}
 use Rattle.acl_model.proofs.PlaceLaws.{same_number}
@@ -19,12 +23,12 @@ use Rattle.acl_walk.specs.Spelling.{Spells}
 use Rattle.acl_walk.specs.declared.event.Event.{Event}
 use Rattle.acl_walk.specs.declared.event.Event.TheVariants.{Begin, Attr, HeadEnd, Text, Finish, End}
 use Rattle.rule_automata.specs.Compile.{automata_of, have_no_predicates, is_empty_of}
-use Rattle.token_stack.specs.Bounds.{PredicateTruth, sure_truth, may_truth, selects_by, rules_by, sure_rules, may_rules, are_settled, place_of_level, sure_row, may_row, StandsWithin, AreStillOpen, learned_rows}
+use Rattle.token_stack.specs.Bounds.{PredicateTruth, Knowledge, is_met, is_settled, KnowsNoLess, sure_truth, may_truth, selects_by, rules_by, sure_rules, may_rules, are_settled, learned, place_of_level, AreStillOpen, StandsBy}
 use Rattle.token_stack.specs.Invariant.{does_rule_select, Stands, row_at}
 use Rattle.token_stack.specs.SignRows.{IsInOrder}
 use Rattle.token_stack.specs.Stack.{TokenStack}
 use Rattle.token_stack.specs.TokensStand.{TokensStandAt}
-use Rattle.token_stack.proofs.BoundLaws.{all_has, same_by, sure_selected, selected_may, sure_selects_more, may_selects_less, may_sure, settled_sure, settled_may, plain_selects}
+use Rattle.token_stack.proofs.BoundLaws.{all_has, same_by, selects_grow_above, prefix_short, sure_selected, selected_may, sure_selects_more, may_selects_less, may_sure, plain_selects}
 use Rattle.token_stack.proofs.FeedLaws.{standing_rows}
 use Rattle.token_stack.proofs.InvariantLaws.{member_passes, passes_member, selects_within, standing_stands}
 
@@ -129,137 +133,134 @@ level_at elements inner element up is = ap (λ es. place_of_level es (length (el
 module _ (names : List (List ℕ)) (rules : List Rule) (d : Doc) (list : List Event) (spells : Spells names (Some d) list) where
   -- ---- the rules of a place
 
-  pub sure_select : (i : ℕ) (place : List ℕ) (n : ℕ) → is_member (sure_rules rules d list i place) n ≡ true → does_rule_select rules d n place ≡ true
-  sure_select i place n member =
-      some_grows (λ r. selects_by d (sure_truth d list i) r.path place) (λ r. select d r.path place) (slice_get rules n)
-      (λ r is so. sure_selected names d list spells i r.path place so)
-      (member_passes (selected_by rules d (sure_truth d list i) place) (sure_rules rules d list i place) n (rules_by-row rules d (sure_truth d list i) place) member)
+  pub sure_select : (known : Knowledge) (place : List ℕ) (n : ℕ) → is_member (sure_rules rules d list known place) n ≡ true → does_rule_select rules d n place ≡ true
+  sure_select known place n member =
+      some_grows (λ r. selects_by d (sure_truth d list known) r.path place) (λ r. select d r.path place) (slice_get rules n)
+      (λ r is so. sure_selected names d list spells known r.path place so)
+      (member_passes (selected_by rules d (sure_truth d list known) place) (sure_rules rules d list known place) n
+      (rules_by-row rules d (sure_truth d list known) place) member)
 
-  pub select_may : (i : ℕ) (place : List ℕ) (n : ℕ) → length rules ≤ 256 → does_rule_select rules d n place ≡ true → is_member (may_rules rules d list i place) n ≡ true
-  select_may i place n few so =
-      passes_member (selected_by rules d (may_truth d list i) place) (may_rules rules d list i place) n (rules_by-row rules d (may_truth d list i) place)
+  pub select_may : (known : Knowledge) (place : List ℕ) (n : ℕ) → length rules ≤ 256 → does_rule_select rules d n place ≡ true → is_member (may_rules rules d list known place) n ≡ true
+  select_may known place n few so =
+      passes_member (selected_by rules d (may_truth d list known) place) (may_rules rules d list known place) n
+      (rules_by-row rules d (may_truth d list known) place)
       (let within : n < length rules = selects_within rules d n place so in omega (arith, within, few))
-      (some_grows (λ r. select d r.path place) (λ r. selects_by d (may_truth d list i) r.path place) (slice_get rules n)
-      (λ r is selects. selected_may names d list spells i r.path place selects) so)
+      (some_grows (λ r. select d r.path place) (λ r. selects_by d (may_truth d list known) r.path place) (slice_get rules n)
+      (λ r is selects. selected_may names d list spells known r.path place selects) so)
 
-  pub sure_rules_grow : (i j : ℕ) (place : List ℕ) (n : ℕ) → i ≤ j → is_member (sure_rules rules d list i place) n ≡ true → is_member (sure_rules rules d list j place) n ≡ true
-  sure_rules_grow i j place n later = rules_grow rules d (sure_truth d list i) (sure_truth d list j) place n (λ r is so. sure_selects_more names d list spells i j r.path place later so)
+  pub sure_rules_grow : (known more : Knowledge) (place : List ℕ) (n : ℕ) → KnowsNoLess known more
+      → is_member (sure_rules rules d list known place) n ≡ true → is_member (sure_rules rules d list more place) n ≡ true
+  sure_rules_grow known more place n later = rules_grow rules d (sure_truth d list known) (sure_truth d list more) place n
+      (λ r is so. sure_selects_more names d list spells known more r.path place later so)
 
-  pub may_rules_shrink : (i j : ℕ) (place : List ℕ) (n : ℕ) → i ≤ j → is_member (may_rules rules d list j place) n ≡ true → is_member (may_rules rules d list i place) n ≡ true
-  may_rules_shrink i j place n later = rules_grow rules d (may_truth d list j) (may_truth d list i) place n (λ r is so. may_selects_less names d list spells i j r.path place later so)
+  pub may_rules_shrink : (known more : Knowledge) (place : List ℕ) (n : ℕ) → KnowsNoLess known more
+      → is_member (may_rules rules d list more place) n ≡ true → is_member (may_rules rules d list known place) n ≡ true
+  may_rules_shrink known more place n later = rules_grow rules d (may_truth d list more) (may_truth d list known) place n
+      (λ r is so. may_selects_less names d list spells known more r.path place later so)
 
   -- A rule whose predicates are settled surely selects what it may select.
-  pub settled_rule : (i : ℕ) (place : List ℕ) (n : ℕ) (rule : Rule) → slice_get rules n ≡ Some rule → are_settled d list i rule.path place ≡ true
-      → is_member (may_rules rules d list i place) n ≡ true → is_member (sure_rules rules d list i place) n ≡ true
-  settled_rule i place n rule there settled = rules_grow rules d (may_truth d list i) (sure_truth d list i) place n
-      (λ r is so. may_sure names d list spells i r.path place (ap (λ q. are_settled d list i q.path place) (same_Some r rule (sym is ∙ there)) ∙ settled) so)
+  pub settled_rule : (known : Knowledge) (place : List ℕ) (n : ℕ) (rule : Rule) → slice_get rules n ≡ Some rule → are_settled d list known rule.path place ≡ true
+      → is_member (may_rules rules d list known place) n ≡ true → is_member (sure_rules rules d list known place) n ≡ true
+  settled_rule known place n rule there settled = rules_grow rules d (may_truth d list known) (sure_truth d list known) place n
+      (λ r is so. may_sure names d list spells known r.path place
+      (ap (λ q. are_settled d list known q.path place) (same_Some r rule (sym is ∙ there)) ∙ settled) so)
 
   -- ---- levels
 
-  -- At each index from i on, the bounds give rows that are within those at i.
-  pub bounds_stand : (i known : ℕ) → length rules ≤ 256 → i ≤ known → StandsWithin rules d list i (sure_row rules d list i known) (may_row rules d list i known)
-  bounds_stand i known few later = record {
-    right = record {
-      sure = λ inner element up n is member.
-          sure_select known element.place n
-          (sym (ap (λ o. is_member (option_map_or (sure_rules rules d list known) o []) n) (level_at (open_at list i) inner element up is)) ∙ member);
-      may = λ inner element up n is so.
-          ap (λ o. is_member (option_map_or (may_rules rules d list known) o []) n) (level_at (open_at list i) inner element up is)
-          ∙ select_may known element.place n few so;
-    };
-    sure = λ level place n is member.
-        ap (λ o. is_member (option_map_or (sure_rules rules d list known) o []) n) is ∙ sure_rules_grow i known place n later member;
-    may = λ level place n is member.
-        may_rules_shrink i known place n later (sym (ap (λ o. is_member (option_map_or (may_rules rules d list known) o []) n) is) ∙ member);
+  -- Sets that stand by what is known are right for the open elements.
+  pub stands_right : (i : ℕ) (known : Knowledge) (surely possibly : ℕ → List ℕ) → length rules ≤ 256
+      → StandsBy rules d list i known surely possibly → Stands rules d (open_at list i) surely possibly
+  stands_right i known surely possibly few stand = record {
+    sure = λ inner element up n is member.
+        sure_select known element.place n
+        (sym (ap (λ row. is_member row n) (stand.sure (length (element ∷ up)) element.place (level_at (open_at list i) inner element up is))) ∙ member);
+    may = λ inner element up n is so.
+        ap (λ row. is_member row n) (stand.may (length (element ∷ up)) element.place (level_at (open_at list i) inner element up is))
+        ∙ select_may known element.place n few so;
   }
 
-  -- In rows within the bounds, a rule whose predicates are settled is sure where it is possible.
-  pub settled_row : (i : ℕ) (surely possibly : ℕ → List ℕ) (level : ℕ) (place : List ℕ) (n : ℕ) (rule : Rule) → StandsWithin rules d list i surely possibly
-      → place_of_level (open_at list i) level ≡ Some place → slice_get rules n ≡ Some rule → are_settled d list i rule.path place ≡ true
+  -- In sets that stand, a rule whose predicates are settled is sure where it is possible.
+  pub settled_row : (i : ℕ) (known : Knowledge) (surely possibly : ℕ → List ℕ) (level : ℕ) (place : List ℕ) (n : ℕ) (rule : Rule)
+      → StandsBy rules d list i known surely possibly
+      → place_of_level (open_at list i) level ≡ Some place → slice_get rules n ≡ Some rule → are_settled d list known rule.path place ≡ true
       → is_member (possibly level) n ≡ true → is_member (surely level) n ≡ true
-  settled_row i surely possibly level place n rule stand is there settled member = stand.sure level place n is (settled_rule i place n rule there settled (stand.may level place n is member))
+  settled_row i known surely possibly level place n rule stand is there settled member =
+      ap (λ row. is_member row n) (stand.sure level place is)
+      ∙ settled_rule known place n rule there settled (sym (ap (λ row. is_member row n) (stand.may level place is)) ∙ member)
 
-  -- Right rows at a level, by the place of its element.
-  right_sure : (i : ℕ) (surely possibly : ℕ → List ℕ) → Stands rules d (open_at list i) surely possibly → (level : ℕ) (place : List ℕ) (n : ℕ) → place_of_level (open_at list i) level ≡ Some place
-      → is_member (surely level) n ≡ true → does_rule_select rules d n place ≡ true
-  right_sure i surely possibly stands level place n is member =
-      let f = level_found (open_at list i) level place is in
-      subst (λ p. does_rule_select rules d n p ≡ true) f.here (stands.sure f.inner f.element f.up n f.cut (ap (λ k. is_member (surely k) n) (sym f.size) ∙ member))
-
-  right_may : (i : ℕ) (surely possibly : ℕ → List ℕ) → Stands rules d (open_at list i) surely possibly → (level : ℕ) (place : List ℕ) (n : ℕ) → place_of_level (open_at list i) level ≡ Some place
-      → does_rule_select rules d n place ≡ true → is_member (possibly level) n ≡ true
-  right_may i surely possibly stands level place n is so =
-      let f = level_found (open_at list i) level place is in
-      ap (λ k. is_member (possibly k) n) f.size ∙ stands.may f.inner f.element f.up n f.cut (subst (λ p. does_rule_select rules d n p ≡ true) (sym f.here) so)
-
-  -- a property of learned rows, by the two cases
-  learned_so : (level k : ℕ) (ahead own : ℕ → List ℕ) (P : List ℕ → Type 0) (b : Bool) → nat_le k level ≡ b → (k ≤ level → P (ahead k)) → P (own k) → P (cond b (ahead k) (own k))
-  learned_so level k ahead own P true is near far = near (leb-true k level is)
-  learned_so level k ahead own P false is near far = far
-
-  -- Rows stay within the bounds where the levels of elements that are still open take over the rows ahead.
-  pub learned_stand : (i ahead level : ℕ) (surely possibly surely_ahead possibly_ahead : ℕ → List ℕ)
-      → i ≤ ahead → AreStillOpen list i ahead level → StandsWithin rules d list i surely possibly → StandsWithin rules d list ahead surely_ahead possibly_ahead
-      → StandsWithin rules d list i (learned_rows level surely_ahead surely) (learned_rows level possibly_ahead possibly)
-  learned_stand i ahead level surely possibly surely_ahead possibly_ahead later still own far = record {
-    right = record {
-      sure = λ inner element up n is.
-          let k = length (element ∷ up) in
-          let here = level_at (open_at list i) inner element up is in
-          learned_so level k surely_ahead surely (λ row. is_member row n ≡ true → does_rule_select rules d n element.place ≡ true) (nat_le k level) refl
-          (λ near member. right_sure ahead surely_ahead possibly_ahead far.right k element.place n (sym (still k near) ∙ here) member)
-          (λ member. own.right.sure inner element up n is member);
-      may = λ inner element up n is so.
-          let k = length (element ∷ up) in
-          let here = level_at (open_at list i) inner element up is in
-          learned_so level k possibly_ahead possibly (λ row. is_member row n ≡ true) (nat_le k level) refl
-          (λ near. right_may ahead surely_ahead possibly_ahead far.right k element.place n (sym (still k near) ∙ here) so)
-          (own.right.may inner element up n is so);
-    };
-    sure = λ k place n is member.
-        learned_so level k surely_ahead surely (λ row. is_member row n ≡ true) (nat_le k level) refl
-        (λ near. far.sure k place n (sym (still k near) ∙ is) (sure_rules_grow i ahead place n later member))
-        (own.sure k place n is member);
-    may = λ k place n is.
-        learned_so level k possibly_ahead possibly (λ row. is_member row n ≡ true → is_member (may_rules rules d list i place) n ≡ true) (nat_le k level) refl
-        (λ near member. may_rules_shrink i ahead place n later (far.may k place n (sym (still k near) ∙ is) member))
-        (λ member. own.may k place n is member);
+  -- Standing tokens, whose rules have no predicates, stand by whatever is known.
+  pub tokens_stand_by : (i : ℕ) (tokens : TokenStack) (known : Knowledge) → are_distinct names ≡ true → length names ≤ 256 → have_no_predicates rules ≡ true
+      → TokensStandAt (automata_of names rules).states list i tokens → ((place : List ℕ) → i ≤ known place)
+      → StandsBy rules d list i known (row_at tokens) (row_at tokens)
+  tokens_stand_by i tokens known distinct few plain stand read = record {
+    read = λ level place is. read place;
+    sure = λ level place is. level_row (sure_truth d list known) level place is;
+    may = λ level place is. level_row (may_truth d list known) level place is;
   }
+    where
+      level_row : (truth : PredicateTruth) (level : ℕ) (place : List ℕ) → place_of_level (open_at list i) level ≡ Some place
+          → row_at tokens level ≡ rules_by rules d truth place
+      level_row truth level place is =
+          let f = level_found (open_at list i) level place is in
+          ap (λ k. row_at tokens k) f.size
+          ∙ plain_row names rules d list i tokens truth f.inner f.element f.up distinct few plain spells stand f.cut
+          ∙ ap (λ p. rules_by rules d truth p) f.here
 
-  level_row : (i : ℕ) (tokens : TokenStack) (truth : PredicateTruth) → are_distinct names ≡ true → length names ≤ 256 → have_no_predicates rules ≡ true
-      → TokensStandAt (automata_of names rules).states list i tokens → (level : ℕ) (place : List ℕ) (n : ℕ) → place_of_level (open_at list i) level ≡ Some place
-      → is_member (rules_by rules d truth place) n ≡ is_member (row_at tokens level) n
-  level_row i tokens truth distinct few plain stand level place n is =
-      let f = level_found (open_at list i) level place is in
-      ap (λ p. is_member (rules_by rules d truth p) n) (sym f.here)
-      ∙ ap (λ row. is_member row n) (sym (plain_row names rules d list i tokens truth f.inner f.element f.up distinct few plain spells stand f.cut))
-      ∙ ap (λ k. is_member (row_at tokens k) n) (sym f.size)
+-- ---- what a look-ahead tells
 
-  -- Standing tokens, whose rules have no predicates, have rows within the bounds.
-  pub tokens_within : (i : ℕ) (tokens : TokenStack) → are_distinct names ≡ true → length names ≤ 256 → length rules ≤ 256 → have_no_predicates rules ≡ true
-      → TokensStandAt (automata_of names rules).states list i tokens → StandsWithin rules d list i (row_at tokens) (row_at tokens)
-  tokens_within i tokens distinct few few_rules plain stand = record {
-    right = standing_stands names rules d list i tokens distinct few few_rules plain spells stand;
-    sure = λ level place n is member. sym (level_row i tokens (sure_truth d list i) distinct few plain stand level place n is) ∙ member;
-    may = λ level place n is member. level_row i tokens (may_truth d list i) distinct few plain stand level place n is ∙ member;
-  }
+-- After a look-ahead no less is known.
+pub learned-more : (level : ℕ) (own ahead : Knowledge) → KnowsNoLess own (learned level own ahead)
+learned-more level own ahead bearer = by (nat_lt (length bearer) level && nat_lt (own bearer) (ahead bearer)) refl
+  where
+    by : (b : Bool) → (nat_lt (length bearer) level && nat_lt (own bearer) (ahead bearer)) ≡ b → own bearer ≤ cond b (ahead bearer) (own bearer)
+    by true is =
+        let less : own bearer < ahead bearer = ltb-true (own bearer) (ahead bearer) (second_so (nat_lt (length bearer) level) (nat_lt (own bearer) (ahead bearer)) is) in
+        omega (arith, less)
+    by false is = omega arith
+
+-- At an element of these levels what is known is what is known ahead, where that is no less.
+learned-near : (level : ℕ) (own ahead : Knowledge) (bearer : List ℕ) → length bearer < level → own bearer ≤ ahead bearer → learned level own ahead bearer ≡ ahead bearer
+learned-near level own ahead bearer near least =
+    ap (λ b. cond (b && nat_lt (own bearer) (ahead bearer)) (ahead bearer) (own bearer)) (lt-ltb (length bearer) level near)
+    ∙ by (nat_lt (own bearer) (ahead bearer)) refl
+  where
+    by : (b : Bool) → nat_lt (own bearer) (ahead bearer) ≡ b → cond b (ahead bearer) (own bearer) ≡ ahead bearer
+    by true is = refl
+    by false is = grind (arith, nat_tests, is, least)
+
+-- Where two truths agree at an element and its ancestors, the same rules select it by both.
+rules_same : (rules : List Rule) (d : Doc) (f g : PredicateTruth) (place : List ℕ) → ((p : List ℕ) (pred : Pred) → Has (prefixes place) p → f p pred ≡ g p pred)
+    → rules_by rules d f place ≡ rules_by rules d g place
+rules_same rules d f g place same =
+    numbers_same (λ r. selects_by d f r.path place) (λ r. selects_by d g r.path place) rules
+    (λ n. some_same (λ r. selects_by d f r.path place) (λ r. selects_by d g r.path place) (slice_get rules n)
+    (λ r is. same_by (selects_by d f r.path place) (selects_by d g r.path place)
+    (selects_grow_above d f g r.path place (λ p pred above so. sym (same p pred above) ∙ so))
+    (selects_grow_above d g f r.path place (λ p pred above so. same p pred above ∙ so))))
+
+-- For an element of these levels, a look-ahead gives the bounds that are known ahead.
+module _ (rules : List Rule) (d : Doc) (list : List Event) (level : ℕ) (own ahead : Knowledge) (place : List ℕ) (near : length place < level) (more : KnowsNoLess own ahead) where
+  known_same : (p : List ℕ) → Has (prefixes place) p → learned level own ahead p ≡ ahead p
+  known_same p above =
+      let short : length p ≤ length place = prefix_short place p above in
+      learned-near level own ahead p (omega (arith, short, near)) (more p)
+
+  pub learned_sure : sure_rules rules d list (learned level own ahead) place ≡ sure_rules rules d list ahead place
+  learned_sure = rules_same rules d (sure_truth d list (learned level own ahead)) (sure_truth d list ahead) place
+      (λ p pred above. ap (λ i. is_met d list i p pred) (known_same p above))
+
+  pub learned_may : may_rules rules d list (learned level own ahead) place ≡ may_rules rules d list ahead place
+  learned_may = rules_same rules d (may_truth d list (learned level own ahead)) (may_truth d list ahead) place
+      (λ p pred above. ap (λ i. is_met d list i p pred || not (is_settled d list i p pred)) (known_same p above))
 
 -- ---- order
-
-empty_in_order : IsInOrder []
-unfolding row_of is_member
-empty_in_order = refl
 
 row_in_order : (p : ℕ → Bool) (row : List ℕ) → row ≡ row_of p → IsInOrder row
 row_in_order p row is = is ∙ sym (row_of-is_member p) ∙ ap (λ xs. row_of (is_member xs)) (sym is)
 
-level_in_order : (rules : List Rule) (d : Doc) (truth : PredicateTruth) (o : Option (List ℕ)) → IsInOrder (option_map_or (rules_by rules d truth) o [])
-level_in_order rules d truth None = empty_in_order
-level_in_order rules d truth (Some place) = row_in_order (selected_by rules d truth place) (rules_by rules d truth place) (rules_by-row rules d truth place)
-
--- The sure rows of the bounds are in order.
-pub sure_row-in_order : (rules : List Rule) (d : Doc) (list : List Event) (i known level : ℕ) → IsInOrder (sure_row rules d list i known level)
-sure_row-in_order rules d list i known level = level_in_order rules d (sure_truth d list known) (place_of_level (open_at list i) level)
+-- The rules of a place are in order.
+pub rules-in_order : (rules : List Rule) (d : Doc) (truth : PredicateTruth) (place : List ℕ) → IsInOrder (rules_by rules d truth place)
+rules-in_order rules d truth place = row_in_order (selected_by rules d truth place) (rules_by rules d truth place) (rules_by-row rules d truth place)
 
 -- ---- elements that stay open
 

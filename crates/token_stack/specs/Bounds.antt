@@ -1,9 +1,8 @@
 -- What the first events of a list tell about predicates, and the bounds that follow for the elements that
 -- a rule selects. The *bearer* of a predicate is its context node (XPath 1.0, 1). Defined by this project.
-use Rattle.std.specs.Prelude.{◌≡◌, ◌≤◌, ℕ, Bool, true, false, nat_eq, nat_le, nat_lt, not, ◌&&◌, ◌||◌, Option, Some, None, List, [], ◌∷◌, length, if◌then◌else◌}
+use Rattle.std.specs.Prelude.{◌≡◌, ◌≤◌, ℕ, Bool, true, false, nat_eq, nat_lt, not, ◌&&◌, ◌||◌, Option, Some, None, List, [], ◌∷◌, length, if◌then◌else◌}
 use Rattle.std.specs.List.{list_any, list_all}
 use Rattle.std.specs.Option.{option_map_or}
-use Rattle.acl_bits.specs.Row.{is_member}
 use Rattle.acl_model.specs.NameTests.{passes}
 use Rattle.acl_model.specs.Places.{at, prefixes}
 use Rattle.acl_model.specs.Predicates.{holds}
@@ -18,7 +17,6 @@ use Rattle.acl_model.specs.declared.rule.Rule.{Rule}
 use Rattle.acl_walk.specs.Closes.{close, counted, is_met_at}
 use Rattle.acl_walk.specs.Open.{OpenPlace, open_at}
 use Rattle.acl_walk.specs.declared.event.Event.{Event}
-use Rattle.token_stack.specs.Invariant.{Stands}
 
 -- ---- predicates after the first i events
 
@@ -38,13 +36,28 @@ PredicateTruth = List ℕ → Pred → Bool
 abbrev pub model_truth : Doc → PredicateTruth
 model_truth d bearer pred = option_map_or (holds pred) (at d bearer) false
 
--- The predicate is surely true: one of the first i events meets it.
-abbrev pub sure_truth : Doc → List Event → ℕ → PredicateTruth
-sure_truth d list i bearer pred = is_met d list i bearer pred
+-- how many of the first events are known at each bearer, by its place. These are the first i events at each
+-- bearer where i events have been read, and more where events ahead were read.
+abbrev pub Knowledge : Type 0
+Knowledge = List ℕ → ℕ
 
--- The predicate may be true: one of the first i events meets it, or none of them settles it.
-abbrev pub may_truth : Doc → List Event → ℕ → PredicateTruth
-may_truth d list i bearer pred = is_met d list i bearer pred || not (is_settled d list i bearer pred)
+-- The first i events are known at each bearer.
+abbrev pub first_events : ℕ → Knowledge
+first_events i bearer = i
+
+-- At each bearer, no fewer events are known by the second than by the first.
+abbrev pub KnowsNoLess : Knowledge → Knowledge → Type 0
+KnowsNoLess known more = (bearer : List ℕ) → known bearer ≤ more bearer
+
+-- The predicate is surely true: one of the events that are known at its bearer meets it.
+abbrev pub sure_truth : Doc → List Event → Knowledge → PredicateTruth
+sure_truth d list known bearer pred = is_met d list (known bearer) bearer pred
+
+-- The predicate may be true: one of the events that are known at its bearer meets it, or none of them settles
+-- it.
+abbrev pub may_truth : Doc → List Event → Knowledge → PredicateTruth
+may_truth d list known bearer pred =
+    is_met d list (known bearer) bearer pred || not (is_settled d list (known bearer) bearer pred)
 
 -- At each element of the document, a predicate that is true by the first truth is true by the second.
 abbrev pub IsAtMost : Doc → PredicateTruth → PredicateTruth → Type 0
@@ -81,27 +94,36 @@ selects_by d truth path place = steps_by d truth path.steps virtual_root (Some p
 abbrev pub rules_by : List Rule → Doc → PredicateTruth → List ℕ → List ℕ
 rules_by rules d truth place = numbers_of (λ r. selects_by d truth r.path place) rules
 
--- the rules that surely select the place after the first i events
-abbrev pub sure_rules : List Rule → Doc → List Event → ℕ → List ℕ → List ℕ
-sure_rules rules d list i place = rules_by rules d (sure_truth d list i) place
+-- the rules that surely select the place, by what is known
+abbrev pub sure_rules : List Rule → Doc → List Event → Knowledge → List ℕ → List ℕ
+sure_rules rules d list known place = rules_by rules d (sure_truth d list known) place
 
--- the rules that may select the place after the first i events
-abbrev pub may_rules : List Rule → Doc → List Event → ℕ → List ℕ → List ℕ
-may_rules rules d list i place = rules_by rules d (may_truth d list i) place
+-- the rules that may select the place, by what is known
+abbrev pub may_rules : List Rule → Doc → List Event → Knowledge → List ℕ → List ℕ
+may_rules rules d list known place = rules_by rules d (may_truth d list known) place
 
 -- ---- where the bounds are exact
 
--- Each predicate of a step is settled at the element at the place, if there is one and its name passes the
--- step's name test.
-abbrev pub is_step_settled : Doc → List Event → ℕ → List ℕ → Step → Option Element → Bool
-is_step_settled d list i place s None = true
-is_step_settled d list i place s (Some e) =
-    not (passes s.test e.name) || list_all (is_settled d list i place) s.preds
+-- Each predicate of a step is settled by what is known, at the element at the place, if there is one and its
+-- name passes the step's name test.
+abbrev pub is_step_settled : Doc → List Event → Knowledge → List ℕ → Step → Option Element → Bool
+is_step_settled d list known place s None = true
+is_step_settled d list known place s (Some e) =
+    not (passes s.test e.name) || list_all (is_settled d list (known place) place) s.preds
 
 -- So is each step of a path, at the element at the place and at its ancestors.
-abbrev pub are_settled : Doc → List Event → ℕ → Path → List ℕ → Bool
-are_settled d list i path place =
-    list_all (λ bearer. list_all (λ s. is_step_settled d list i bearer s (at d bearer)) path.steps) (prefixes place)
+abbrev pub are_settled : Doc → List Event → Knowledge → Path → List ℕ → Bool
+are_settled d list known path place =
+    list_all (λ bearer. list_all (λ s. is_step_settled d list known bearer s (at d bearer)) path.steps)
+    (prefixes place)
+
+-- ---- what a look-ahead tells
+
+-- what is known after a look-ahead: what is known ahead at the elements of the levels up to this one where
+-- that is more, and at other elements what was known. The level of the root is 1.
+abbrev pub learned : ℕ → Knowledge → Knowledge → Knowledge
+learned level own ahead bearer =
+    if nat_lt (length bearer) level && nat_lt (own bearer) (ahead bearer) then ahead bearer else own bearer
 
 -- ---- levels
 
@@ -111,36 +133,20 @@ place_of_level [] level = None
 place_of_level (element ∷ up) level =
     if nat_eq level (length (element ∷ up)) then Some element.place else place_of_level up level
 
--- the rules that surely select the element of a level, which is open after the first i events, by what the
--- first `known` events tell
-abbrev pub sure_row : List Rule → Doc → List Event → ℕ → ℕ → ℕ → List ℕ
-sure_row rules d list i known level =
-    option_map_or (sure_rules rules d list known) (place_of_level (open_at list i) level) []
-
--- the rules that may select it, in the same way
-abbrev pub may_row : List Rule → Doc → List Event → ℕ → ℕ → ℕ → List ℕ
-may_row rules d list i known level =
-    option_map_or (may_rules rules d list known) (place_of_level (open_at list i) level) []
-
--- Sets of sure and of possible rules for each level are within the bounds after the first i events. They
--- are right for the open elements. Each rule that surely selects an open element is in the sure set of its
--- level, and each rule in the possible set may select it.
-pub record StandsWithin (rules : List Rule) (d : Doc) (list : List Event) (i : ℕ)
-    (surely possibly : ℕ → List ℕ) : Type 0 where
-  pub right : Stands rules d (open_at list i) surely possibly
-  pub sure : (level : ℕ) (place : List ℕ) (n : ℕ)
-      → place_of_level (open_at list i) level ≡ Some place
-      → is_member (sure_rules rules d list i place) n ≡ true → is_member (surely level) n ≡ true
-  pub may : (level : ℕ) (place : List ℕ) (n : ℕ)
-      → place_of_level (open_at list i) level ≡ Some place
-      → is_member (possibly level) n ≡ true → is_member (may_rules rules d list i place) n ≡ true
-
--- The elements of the levels up to this one that are open after the first i events are also open later,
--- after the first `ahead` events.
+-- Up to this level, the elements that are open after the first i events are those that are open after the
+-- first `ahead` events.
 abbrev pub AreStillOpen : List Event → ℕ → ℕ → ℕ → Type 0
 AreStillOpen list i ahead level = (k : ℕ) → k ≤ level
     → place_of_level (open_at list i) k ≡ place_of_level (open_at list ahead) k
 
--- the sets of the levels up to this one by what is known ahead, and the others as they were
-abbrev pub learned_rows : ℕ → (ℕ → List ℕ) → (ℕ → List ℕ) → ℕ → List ℕ
-learned_rows level ahead own k = if nat_le k level then ahead k else own k
+-- Sets of sure and of possible rules for each level stand after the first i events, by what is known. No fewer
+-- than these events are known at each open element. The sets of its level are the rules that surely select it
+-- and those that may.
+pub record StandsBy (rules : List Rule) (d : Doc) (list : List Event) (i : ℕ) (known : Knowledge)
+    (surely possibly : ℕ → List ℕ) : Type 0 where
+  pub read : (level : ℕ) (place : List ℕ) → place_of_level (open_at list i) level ≡ Some place
+      → i ≤ known place
+  pub sure : (level : ℕ) (place : List ℕ) → place_of_level (open_at list i) level ≡ Some place
+      → surely level ≡ sure_rules rules d list known place
+  pub may : (level : ℕ) (place : List ℕ) → place_of_level (open_at list i) level ≡ Some place
+      → possibly level ≡ may_rules rules d list known place

@@ -1,4 +1,4 @@
-//! Laws: after the first events of a list, predicates that were met and those that are not settled give
+//! Laws: by what is known of the events of a list, predicates that are met and those that are not settled give
 //! two bounds for the elements that a path selects. These functions do nothing: their contracts are the
 //! laws.
 
@@ -22,9 +22,10 @@ ghost use Rattle.acl_walk.specs.inside.CloseExamples.{nested, nested_events};
 ghost use Rattle.acl_walk.specs.Spelling.{Spells};
 ghost use Rattle.acl_walk.specs.declared.event.Event.{Event};
 ghost use Rattle.rule_automata.specs.Compile.{automata_of, have_no_predicates, is_empty_of};
-ghost use Rattle.token_stack.specs.Bounds.{PredicateTruth, model_truth, is_settled, sure_truth, may_truth, IsAtMost, selects_by, are_settled};
-ghost use Rattle.token_stack.specs.Bounds.{rules_by, sure_rules, may_rules, place_of_level, sure_row, may_row, StandsWithin, AreStillOpen, learned_rows};
-ghost use Rattle.token_stack.specs.Invariant.{does_rule_select, row_at};
+ghost use Rattle.token_stack.specs.Bounds.{PredicateTruth, Knowledge, first_events, KnowsNoLess, model_truth, is_settled, sure_truth, may_truth};
+ghost use Rattle.token_stack.specs.Bounds.{IsAtMost, selects_by, are_settled, learned};
+ghost use Rattle.token_stack.specs.Bounds.{rules_by, sure_rules, may_rules, place_of_level, AreStillOpen, StandsBy};
+ghost use Rattle.token_stack.specs.Invariant.{does_rule_select, Stands, row_at};
 ghost use Rattle.token_stack.specs.SignRows.{IsInOrder};
 ghost use Rattle.token_stack.specs.Stack.{TokenStack};
 ghost use Rattle.token_stack.specs.inside.BoundExamples.{a_with_b};
@@ -46,18 +47,20 @@ pub fn selection_follows_predicates()
         → selects_by d truth path place ≡ select d path place }
 {}
 
-/// When predicates are settled, in a list that spells a document. After the first i events, a predicate is
-/// surely true exactly where it is settled and true, and it may be true exactly where it is not settled or
+/// When predicates are settled, in a list that spells a document. By what is known at its bearer, a predicate
+/// is surely true exactly where it is settled and true, and it may be true exactly where it is not settled or
 /// is true. After the Finish of its bearer a predicate is settled, and after all events each is.
 pub fn predicates_are_settled()
-    ensures sure { (names : List (List ℕ)) (d : Doc) (list : List Event) (i : ℕ) (bearer : List ℕ)
-        (e : Element) (pred : Pred) → length names ≤ most_names → Spells names (Some d) list
-        → at d bearer ≡ Some e
-        → sure_truth d list i bearer pred ≡ (is_settled d list i bearer pred && holds pred e) }
-    ensures may { (names : List (List ℕ)) (d : Doc) (list : List Event) (i : ℕ) (bearer : List ℕ)
-        (e : Element) (pred : Pred) → length names ≤ most_names → Spells names (Some d) list
-        → at d bearer ≡ Some e
-        → may_truth d list i bearer pred ≡ (not (is_settled d list i bearer pred) || holds pred e) }
+    ensures sure { (names : List (List ℕ)) (d : Doc) (list : List Event) (known : Knowledge)
+        (bearer : List ℕ) (e : Element) (pred : Pred) → length names ≤ most_names
+        → Spells names (Some d) list → at d bearer ≡ Some e
+        → sure_truth d list known bearer pred
+        ≡ (is_settled d list (known bearer) bearer pred && holds pred e) }
+    ensures may { (names : List (List ℕ)) (d : Doc) (list : List Event) (known : Knowledge)
+        (bearer : List ℕ) (e : Element) (pred : Pred) → length names ≤ most_names
+        → Spells names (Some d) list → at d bearer ≡ Some e
+        → may_truth d list known bearer pred
+        ≡ (not (is_settled d list (known bearer) bearer pred) || holds pred e) }
     ensures after_finish { (names : List (List ℕ)) (d : Doc) (list : List Event) (finish i : ℕ)
         (bearer : List ℕ) (e : Element) (pred : Pred) → length names ≤ most_names
         → Spells names (Some d) list → at d bearer ≡ Some e
@@ -68,120 +71,130 @@ pub fn predicates_are_settled()
         → at d bearer ≡ Some e → is_settled d list (length list) bearer pred ≡ true }
 {}
 
-/// After the first i events of a list that spells a document, a predicate that is surely true is true,
-/// and one that is true may be true. With more events no fewer are surely true, and no more may be.
+/// In a list that spells a document, a predicate that is surely true by what is known is true, and one that is
+/// true may be true. Where more is known no fewer are surely true, and no more may be.
 pub fn predicates_lie_between_bounds()
-    ensures sure { (names : List (List ℕ)) (d : Doc) (list : List Event) (i : ℕ)
+    ensures sure { (names : List (List ℕ)) (d : Doc) (list : List Event) (known : Knowledge)
         → length names ≤ most_names → Spells names (Some d) list
-        → IsAtMost d (sure_truth d list i) (model_truth d) }
-    ensures may { (names : List (List ℕ)) (d : Doc) (list : List Event) (i : ℕ)
+        → IsAtMost d (sure_truth d list known) (model_truth d) }
+    ensures may { (names : List (List ℕ)) (d : Doc) (list : List Event) (known : Knowledge)
         → length names ≤ most_names → Spells names (Some d) list
-        → IsAtMost d (model_truth d) (may_truth d list i) }
-    ensures sure_grows { (names : List (List ℕ)) (d : Doc) (list : List Event) (i later : ℕ)
-        → length names ≤ most_names → Spells names (Some d) list → i ≤ later
-        → IsAtMost d (sure_truth d list i) (sure_truth d list later) }
-    ensures may_shrinks { (names : List (List ℕ)) (d : Doc) (list : List Event) (i later : ℕ)
-        → length names ≤ most_names → Spells names (Some d) list → i ≤ later
-        → IsAtMost d (may_truth d list later) (may_truth d list i) }
+        → IsAtMost d (model_truth d) (may_truth d list known) }
+    ensures sure_grows { (names : List (List ℕ)) (d : Doc) (list : List Event)
+        (known more : Knowledge) → length names ≤ most_names → Spells names (Some d) list
+        → KnowsNoLess known more → IsAtMost d (sure_truth d list known) (sure_truth d list more) }
+    ensures may_shrinks { (names : List (List ℕ)) (d : Doc) (list : List Event)
+        (known more : Knowledge) → length names ≤ most_names → Spells names (Some d) list
+        → KnowsNoLess known more → IsAtMost d (may_truth d list more) (may_truth d list known) }
 {}
 
-/// So what a path surely selects it selects, and what it selects it may select. The first grows with the
-/// events and the second shrinks. Where each step's predicates are settled at an element and those of its
+/// So what a path surely selects it selects, and what it selects it may select. The first grows with what is
+/// known and the second shrinks. Where each step's predicates are settled at those of an element and its
 /// ancestors that pass the step's name test, the three are the same there.
 pub fn selection_lies_between_bounds()
-    ensures sure { (names : List (List ℕ)) (d : Doc) (list : List Event) (i : ℕ) (path : Path)
-        (place : List ℕ) → length names ≤ most_names → Spells names (Some d) list
-        → selects_by d (sure_truth d list i) path place ≡ true → select d path place ≡ true }
-    ensures may { (names : List (List ℕ)) (d : Doc) (list : List Event) (i : ℕ) (path : Path)
-        (place : List ℕ) → length names ≤ most_names → Spells names (Some d) list
-        → select d path place ≡ true → selects_by d (may_truth d list i) path place ≡ true }
-    ensures sure_grows { (names : List (List ℕ)) (d : Doc) (list : List Event) (i later : ℕ)
+    ensures sure { (names : List (List ℕ)) (d : Doc) (list : List Event) (known : Knowledge)
         (path : Path) (place : List ℕ) → length names ≤ most_names → Spells names (Some d) list
-        → i ≤ later → selects_by d (sure_truth d list i) path place ≡ true
-        → selects_by d (sure_truth d list later) path place ≡ true }
-    ensures may_shrinks { (names : List (List ℕ)) (d : Doc) (list : List Event) (i later : ℕ)
+        → selects_by d (sure_truth d list known) path place ≡ true
+        → select d path place ≡ true }
+    ensures may { (names : List (List ℕ)) (d : Doc) (list : List Event) (known : Knowledge)
         (path : Path) (place : List ℕ) → length names ≤ most_names → Spells names (Some d) list
-        → i ≤ later → selects_by d (may_truth d list later) path place ≡ true
-        → selects_by d (may_truth d list i) path place ≡ true }
-    ensures settled_sure { (names : List (List ℕ)) (d : Doc) (list : List Event) (i : ℕ)
-        (path : Path) (place : List ℕ) → length names ≤ most_names → Spells names (Some d) list
-        → are_settled d list i path place ≡ true
-        → selects_by d (sure_truth d list i) path place ≡ select d path place }
-    ensures settled_may { (names : List (List ℕ)) (d : Doc) (list : List Event) (i : ℕ)
-        (path : Path) (place : List ℕ) → length names ≤ most_names → Spells names (Some d) list
-        → are_settled d list i path place ≡ true
-        → selects_by d (may_truth d list i) path place ≡ select d path place }
+        → select d path place ≡ true
+        → selects_by d (may_truth d list known) path place ≡ true }
+    ensures sure_grows { (names : List (List ℕ)) (d : Doc) (list : List Event)
+        (known more : Knowledge) (path : Path) (place : List ℕ) → length names ≤ most_names
+        → Spells names (Some d) list → KnowsNoLess known more
+        → selects_by d (sure_truth d list known) path place ≡ true
+        → selects_by d (sure_truth d list more) path place ≡ true }
+    ensures may_shrinks { (names : List (List ℕ)) (d : Doc) (list : List Event)
+        (known more : Knowledge) (path : Path) (place : List ℕ) → length names ≤ most_names
+        → Spells names (Some d) list → KnowsNoLess known more
+        → selects_by d (may_truth d list more) path place ≡ true
+        → selects_by d (may_truth d list known) path place ≡ true }
+    ensures settled_sure { (names : List (List ℕ)) (d : Doc) (list : List Event)
+        (known : Knowledge) (path : Path) (place : List ℕ) → length names ≤ most_names
+        → Spells names (Some d) list → are_settled d list known path place ≡ true
+        → selects_by d (sure_truth d list known) path place ≡ select d path place }
+    ensures settled_may { (names : List (List ℕ)) (d : Doc) (list : List Event)
+        (known : Knowledge) (path : Path) (place : List ℕ) → length names ≤ most_names
+        → Spells names (Some d) list → are_settled d list known path place ≡ true
+        → selects_by d (may_truth d list known) path place ≡ select d path place }
 {}
 
 /// The same of the rules at a place: each that surely selects it selects it, and each that selects it may
-/// select it. Where the predicates of a rule's path are settled, as above, the rule is in both sets or in
-/// none. Where no rule has a predicate, each truth of predicates gives the rules that select the place.
+/// select it. Where the predicates of a rule's path are settled, as above, a rule that may select does so
+/// surely. Where no rule has a predicate, each truth of predicates gives the rules that select the place.
 pub fn rules_lie_between_bounds()
-    ensures sure { (names : List (List ℕ)) (rules : List Rule) (d : Doc) (list : List Event) (i : ℕ)
-        (place : List ℕ) (n : ℕ) → length names ≤ most_names → Spells names (Some d) list
-        → is_member (sure_rules rules d list i place) n ≡ true
+    ensures sure { (names : List (List ℕ)) (rules : List Rule) (d : Doc) (list : List Event)
+        (known : Knowledge) (place : List ℕ) (n : ℕ) → length names ≤ most_names
+        → Spells names (Some d) list → is_member (sure_rules rules d list known place) n ≡ true
         → does_rule_select rules d n place ≡ true }
-    ensures may { (names : List (List ℕ)) (rules : List Rule) (d : Doc) (list : List Event) (i : ℕ)
-        (place : List ℕ) (n : ℕ) → length names ≤ most_names → length rules ≤ 256
-        → Spells names (Some d) list → does_rule_select rules d n place ≡ true
-        → is_member (may_rules rules d list i place) n ≡ true }
+    ensures may { (names : List (List ℕ)) (rules : List Rule) (d : Doc) (list : List Event)
+        (known : Knowledge) (place : List ℕ) (n : ℕ) → length names ≤ most_names
+        → length rules ≤ 256 → Spells names (Some d) list
+        → does_rule_select rules d n place ≡ true
+        → is_member (may_rules rules d list known place) n ≡ true }
     ensures sure_grows { (names : List (List ℕ)) (rules : List Rule) (d : Doc) (list : List Event)
-        (i later : ℕ) (place : List ℕ) (n : ℕ) → length names ≤ most_names
-        → Spells names (Some d) list → i ≤ later
-        → is_member (sure_rules rules d list i place) n ≡ true
-        → is_member (sure_rules rules d list later place) n ≡ true }
+        (known more : Knowledge) (place : List ℕ) (n : ℕ) → length names ≤ most_names
+        → Spells names (Some d) list → KnowsNoLess known more
+        → is_member (sure_rules rules d list known place) n ≡ true
+        → is_member (sure_rules rules d list more place) n ≡ true }
     ensures may_shrinks { (names : List (List ℕ)) (rules : List Rule) (d : Doc) (list : List Event)
-        (i later : ℕ) (place : List ℕ) (n : ℕ) → length names ≤ most_names
-        → Spells names (Some d) list → i ≤ later
-        → is_member (may_rules rules d list later place) n ≡ true
-        → is_member (may_rules rules d list i place) n ≡ true }
+        (known more : Knowledge) (place : List ℕ) (n : ℕ) → length names ≤ most_names
+        → Spells names (Some d) list → KnowsNoLess known more
+        → is_member (may_rules rules d list more place) n ≡ true
+        → is_member (may_rules rules d list known place) n ≡ true }
     ensures settled { (names : List (List ℕ)) (rules : List Rule) (d : Doc) (list : List Event)
-        (i : ℕ) (place : List ℕ) (n : ℕ) (rule : Rule) → length names ≤ most_names
+        (known : Knowledge) (place : List ℕ) (n : ℕ) (rule : Rule) → length names ≤ most_names
         → Spells names (Some d) list → slice_get rules n ≡ Some rule
-        → are_settled d list i rule.path place ≡ true
-        → is_member (may_rules rules d list i place) n ≡ true
-        → is_member (sure_rules rules d list i place) n ≡ true }
+        → are_settled d list known rule.path place ≡ true
+        → is_member (may_rules rules d list known place) n ≡ true
+        → is_member (sure_rules rules d list known place) n ≡ true }
     ensures plain { (rules : List Rule) (d : Doc) (truth : PredicateTruth) (place : List ℕ)
         → have_no_predicates rules ≡ true
         → rules_by rules d truth place ≡ numbers_of (λ r. select d r.path place) rules }
+    ensures in_order { (rules : List Rule) (d : Doc) (truth : PredicateTruth) (place : List ℕ)
+        → IsInOrder (rules_by rules d truth place) }
 {}
 
-/// The bounds give rows for each open level. By the first `known` events, from i on, these rows are within
-/// the bounds after the first i events. In rows within the bounds, a rule whose predicates are settled is in
-/// both sets of a level or in none. Rows stay within the bounds where the levels of elements that are still
-/// open ahead take over rows that are within the bounds there. The elements of the levels up to one are
-/// still open ahead if at no index between fewer elements are open. The sure rows of the bounds are in order, as
-/// the signs of open elements need it.
-pub fn bounds_give_rows()
-    ensures stand { (names : List (List ℕ)) (rules : List Rule) (d : Doc) (list : List Event)
-        (i known : ℕ) → length names ≤ most_names → length rules ≤ 256
-        → Spells names (Some d) list → i ≤ known
-        → StandsWithin rules d list i (sure_row rules d list i known)
-        (may_row rules d list i known) }
+/// Sets of rules that stand by what is known are right for the open elements. In them a rule whose predicates
+/// are settled is in the sure set of a level if it is in the possible one.
+pub fn standing_sets_are_right()
+    ensures right { (names : List (List ℕ)) (rules : List Rule) (d : Doc) (list : List Event) (i : ℕ)
+        (known : Knowledge) (surely possibly : ℕ → List ℕ) → length names ≤ most_names
+        → length rules ≤ 256 → Spells names (Some d) list
+        → StandsBy rules d list i known surely possibly
+        → Stands rules d (open_at list i) surely possibly }
     ensures settled { (names : List (List ℕ)) (rules : List Rule) (d : Doc) (list : List Event) (i : ℕ)
-        (surely possibly : ℕ → List ℕ) (level : ℕ) (place : List ℕ) (n : ℕ) (rule : Rule)
-        → length names ≤ most_names → Spells names (Some d) list
-        → StandsWithin rules d list i surely possibly
+        (known : Knowledge) (surely possibly : ℕ → List ℕ) (level : ℕ) (place : List ℕ) (n : ℕ)
+        (rule : Rule) → length names ≤ most_names → Spells names (Some d) list
+        → StandsBy rules d list i known surely possibly
         → place_of_level (open_at list i) level ≡ Some place → slice_get rules n ≡ Some rule
-        → are_settled d list i rule.path place ≡ true
+        → are_settled d list known rule.path place ≡ true
         → is_member (possibly level) n ≡ true → is_member (surely level) n ≡ true }
-    ensures learn { (names : List (List ℕ)) (rules : List Rule) (d : Doc) (list : List Event)
-        (i ahead level : ℕ) (surely possibly surely_ahead possibly_ahead : ℕ → List ℕ)
-        → length names ≤ most_names → Spells names (Some d) list → i ≤ ahead
-        → AreStillOpen list i ahead level → StandsWithin rules d list i surely possibly
-        → StandsWithin rules d list ahead surely_ahead possibly_ahead
-        → StandsWithin rules d list i (learned_rows level surely_ahead surely)
-        (learned_rows level possibly_ahead possibly) }
+{}
+
+/// After a look-ahead no less is known. At an element of the levels that it tells of, the rules that surely
+/// select and those that may are those by what is known ahead, if that is no less. The elements of the levels
+/// up to one are still open ahead if at no index between fewer elements are open.
+pub fn a_look_ahead_tells_more()
+    ensures more { (level : ℕ) (own ahead : Knowledge)
+        → KnowsNoLess own (learned level own ahead) }
+    ensures sure { (rules : List Rule) (d : Doc) (list : List Event) (level : ℕ)
+        (own ahead : Knowledge) (place : List ℕ) → length place < level → KnowsNoLess own ahead
+        → sure_rules rules d list (learned level own ahead) place
+        ≡ sure_rules rules d list ahead place }
+    ensures may { (rules : List Rule) (d : Doc) (list : List Event) (level : ℕ)
+        (own ahead : Knowledge) (place : List ℕ) → length place < level → KnowsNoLess own ahead
+        → may_rules rules d list (learned level own ahead) place
+        ≡ may_rules rules d list ahead place }
     ensures still_open { (list : List Event) (i ahead level : ℕ) → i ≤ ahead
         → ((j : ℕ) → i ≤ j → j ≤ ahead → level ≤ length (open_at list j))
         → AreStillOpen list i ahead level }
-    ensures in_order { (rules : List Rule) (d : Doc) (list : List Event) (i known level : ℕ)
-        → IsInOrder (sure_row rules d list i known level) }
 {}
 
 /// Where no rule has a predicate, the rows of tokens that stand at an index of a list are those of each
-/// truth of predicates, and they are within the bounds.
-pub fn standing_tokens_are_within_bounds()
+/// truth of predicates, and they stand by whatever is known.
+pub fn standing_tokens_stand_by_what_is_known()
     ensures rows { (names : List (List ℕ)) (rules : List Rule) (d : Doc) (list : List Event) (i : ℕ)
         (tokens : TokenStack) (truth : PredicateTruth) (inner : List OpenPlace)
         (element : OpenPlace) (up : List OpenPlace) → are_distinct names ≡ true
@@ -189,20 +202,27 @@ pub fn standing_tokens_are_within_bounds()
         → TokensStandAt (automata_of names rules).states list i tokens
         → open_at list i ≡ inner ++ (element ∷ up)
         → row_at tokens (length (element ∷ up)) ≡ rules_by rules d truth element.place }
-    ensures within { (names : List (List ℕ)) (rules : List Rule) (d : Doc) (list : List Event) (i : ℕ)
-        (tokens : TokenStack) → are_distinct names ≡ true → length names ≤ most_names
-        → length rules ≤ 256 → have_no_predicates rules ≡ true → Spells names (Some d) list
+    ensures known { (names : List (List ℕ)) (rules : List Rule) (d : Doc) (list : List Event) (i : ℕ)
+        (tokens : TokenStack) (known : Knowledge) → are_distinct names ≡ true
+        → length names ≤ most_names → have_no_predicates rules ≡ true → Spells names (Some d) list
         → TokensStandAt (automata_of names rules).states list i tokens
-        → StandsWithin rules d list i (row_at tokens) (row_at tokens) }
+        → ((place : List ℕ) → i ≤ known place)
+        → StandsBy rules d list i known (row_at tokens) (row_at tokens) }
 {}
 
 /// What `//a[b]` surely selects and may select, worked out by hand. In a small document the first `a` has a
 /// child `b`, which begins with event 4, and the second one has none and finishes with event 10.
 pub fn bounds_of_a_small_document()
-    ensures open_sure { selects_by nested (sure_truth nested nested_events 4) a_with_b (1 ∷ []) ≡ false }
-    ensures open_may { selects_by nested (may_truth nested nested_events 4) a_with_b (1 ∷ []) ≡ true }
-    ensures met_sure { selects_by nested (sure_truth nested nested_events 5) a_with_b (1 ∷ []) ≡ true }
-    ensures unmet_sure { selects_by nested (sure_truth nested nested_events 10) a_with_b (2 ∷ []) ≡ false }
-    ensures unmet_may { selects_by nested (may_truth nested nested_events 10) a_with_b (2 ∷ []) ≡ true }
-    ensures failed_may { selects_by nested (may_truth nested nested_events 11) a_with_b (2 ∷ []) ≡ false }
+    ensures open_sure { selects_by nested (sure_truth nested nested_events (first_events 4)) a_with_b
+        (1 ∷ []) ≡ false }
+    ensures open_may { selects_by nested (may_truth nested nested_events (first_events 4)) a_with_b
+        (1 ∷ []) ≡ true }
+    ensures met_sure { selects_by nested (sure_truth nested nested_events (first_events 5)) a_with_b
+        (1 ∷ []) ≡ true }
+    ensures unmet_sure { selects_by nested (sure_truth nested nested_events (first_events 10))
+        a_with_b (2 ∷ []) ≡ false }
+    ensures unmet_may { selects_by nested (may_truth nested nested_events (first_events 10)) a_with_b
+        (2 ∷ []) ≡ true }
+    ensures failed_may { selects_by nested (may_truth nested nested_events (first_events 11))
+        a_with_b (2 ∷ []) ≡ false }
 {}

@@ -11,9 +11,9 @@ mod sign_laws;
 mod tokens;
 
 pub use bound_laws::{
-    bounds_give_rows, bounds_of_a_small_document, predicates_are_settled,
+    a_look_ahead_tells_more, bounds_of_a_small_document, predicates_are_settled,
     predicates_lie_between_bounds, rules_lie_between_bounds, selection_follows_predicates,
-    selection_lies_between_bounds, standing_tokens_are_within_bounds,
+    selection_lies_between_bounds, standing_sets_are_right, standing_tokens_stand_by_what_is_known,
 };
 pub use entry::Entry;
 pub use laws::{

@@ -4,8 +4,8 @@ use Rattle.token_stack.proofs.bound_laws.predicates_lie_between_bounds.Goals as 
 
 pub returns : goal.returns
 returns c = record {
-  sure = λ names d list i few spells. sure_at_most names d list spells i;
-  may = λ names d list i few spells. may_at_least names d list spells i;
-  sure_grows = λ names d list i later few spells is. sure_grows names d list spells i later is;
-  may_shrinks = λ names d list i later few spells is. may_shrinks names d list spells i later is;
+  sure = λ names d list known few spells. sure_at_most names d list spells known;
+  may = λ names d list known few spells. may_at_least names d list spells known;
+  sure_grows = λ names d list known more few spells later. sure_grows names d list spells known more later;
+  may_shrinks = λ names d list known more few spells later. may_shrinks names d list spells known more later;
 }

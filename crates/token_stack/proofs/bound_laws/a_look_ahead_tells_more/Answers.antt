@@ -1,0 +1,6 @@
+-- The laws of BoundRows.
+use Rattle.token_stack.proofs.BoundRows.{learned-more, learned_sure, learned_may, stay_open}
+use Rattle.token_stack.proofs.bound_laws.a_look_ahead_tells_more.Goals as goal
+
+pub returns : goal.returns
+returns c = record { more = learned-more; sure = learned_sure; may = learned_may; still_open = stay_open }
