@@ -1,6 +1,7 @@
 #!/usr/bin/env bash
 # Tries that the built program answers a faulty command line with the outcome's line, the wrong argument and the page of the
-# command, and explains other outcomes too: all on standard error, and nothing on standard output.
+# command, and explains other outcomes too: all on standard error, and nothing on standard output. Control characters of a
+# file's name are escaped. Where standard input is a terminal, a command says first what it reads.
 . "$(dirname "$0")/on_program.sh"
 
 # the outcome's line, a second line, a piece of what follows, and the arguments; standard input is a licence body
@@ -43,5 +44,31 @@ try "acl: 10 BadLine line=1" "acl: standard input: not a line of a document; too
     "" encode keys
 try "acl: 21 BadRule line=4 at=19" "acl: misspelled.rules: the path is invalid after its first 19 bytes, or ends too early; tools/why.py FILE shows the place" \
     "" preview misspelled.rules
+try "acl: 3 KeysFault" 'acl: no\u{1b}[2Jwhere: not found, or not a readable file' "" preview $'no\e[2Jwhere'
+
+# what a command writes to standard error that gets no input from a terminal, and whether the terminal's line is there
+on_terminal() {
+    local wanted=$1
+    shift
+    python3 - "$wanted" "$program" "$@" <<'PYTHON' || wrong=1
+import os, pty, subprocess, sys
+wanted, command = sys.argv[1], sys.argv[2:]
+ours, theirs = pty.openpty()
+ran = subprocess.Popen(command, stdin=theirs, stdout=subprocess.PIPE, stderr=subprocess.PIPE)
+os.close(theirs)
+os.write(ours, b"\x04")
+out, error = ran.communicate(timeout=20)
+lines = error.decode().split("\n")
+said = [line for line in lines if line.endswith("from the terminal; Ctrl-D ends them") or line.endswith("from the terminal; Ctrl-D ends it")]
+if said != ([wanted] if wanted else []) or (wanted and lines[0] != wanted) or (wanted and out):
+    sys.exit(f"on a terminal, {' '.join(command[1:])}: {error!r}")
+PYTHON
+}
+on_terminal "acl: reading the lines of a document from the terminal; Ctrl-D ends them" preview physician.rules
+on_terminal "acl: reading the lines of a document from the terminal; Ctrl-D ends them" encode keys
+on_terminal "acl: reading a licence body from the terminal; Ctrl-D ends it" seal keys
+on_terminal "acl: reading a sealed licence from the terminal; Ctrl-D ends it" view keys hospital.file
+on_terminal "" sample 1
+on_terminal "" view keys
 [ "$wrong" -eq 0 ] && echo "A faulty command line gets the wrong argument and the page of its command, and a refusal its cause."
 exit "$wrong"

@@ -5,13 +5,13 @@
 
 use acl_outside::{FileStore, ReaderSource, WriterSink};
 use acl_run::{Outcome, outcome_text, run, status};
-use acl_usage::message_for;
+use acl_usage::{awaited_line, message_for};
 use acl_words::named_files;
 use std::alloc::Global;
 use std::env;
 use std::env::Env;
 use std::fs::File;
-use std::io::{BufWriter, ErrorKind, Read, Stdin, Write};
+use std::io::{BufWriter, ErrorKind, IsTerminal, Read, Stdin, Write};
 use std::process::ExitCode;
 
 /// The arguments without the program's name. The outcome is Usage where some argument isn't UTF-8.
@@ -56,9 +56,19 @@ fn open_files(rt: &HostRuntime, words: &[String]) -> (Option<File>, Option<File>
     }
 }
 
+/// Says what is read, where standard input is a terminal.
+fn write_awaited(rt: &HostRuntime, words: &[String]) {
+    if rt.stdin().is_terminal() {
+        if let Some(line) = awaited_line(words) {
+            let _ = rt.stderr().write_all(line.as_bytes());
+        }
+    }
+}
+
 /// Runs `acl_run` on real files and streams. A file that isn't named, or can't be opened, fails at its first read.
 fn run_over_streams(rt: &HostRuntime, words: &[String]) -> Outcome {
     let mut input = ReaderSource::new(open_input(rt));
+    write_awaited(rt, words);
     let (keys, store) = open_files(rt, words);
     let mut keys = ReaderSource::new(keys);
     let mut store = FileStore::new(store);

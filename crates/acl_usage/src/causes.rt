@@ -1,5 +1,6 @@
 //! Explains an outcome other than Usage: one line with the file or stream that is at fault, and the cause.
 
+use crate::shown::shown;
 use acl_outcome::Outcome;
 use acl_words::{Files, Input, named_files};
 use std::alloc::{AllocError, Global};
@@ -154,6 +155,7 @@ fn name_of(given: Given, files: Files<'_>) -> &str {
 /// The line for an invalid path, of which the first `at` bytes begin some path. `words` are those after which
 /// `tools/why.py` shows the place.
 fn path_line(alloc: Global, name: &str, at: u32, words: &str) -> Result<String, AllocError> {
+    let name = shown(alloc, name)?;
     if at == 0 {
         format!(in alloc; "acl: {name}: a path must begin with / or //\n")
     } else {
@@ -180,7 +182,8 @@ fn line_for(alloc: Global, files: Files<'_>, outcome: Outcome) -> Result<String,
             "--query P",
         ),
         (_, Some((given, cause))) => {
-            format!(in alloc; "acl: {}: {cause}\n", name_of(given, files))
+            let name = shown(alloc, name_of(given, files))?;
+            format!(in alloc; "acl: {name}: {cause}\n")
         }
         (_, None) => Ok(String::new(alloc)),
     }

@@ -6,14 +6,18 @@
 //! arguments without the program's name.
 #![tactic(auto)]
 
+mod awaited;
 mod causes;
 mod hints;
+mod shown;
 
 use acl_outcome::Outcome;
 use acl_words::refused_word;
+pub use awaited::awaited_line;
 use causes::cause_line;
 use clap::{Arg, ArgAction, Command};
 use hints::{asks_for_help, hint_for};
+use shown::shown;
 use std::alloc::{AllocError, Global};
 
 #[cfg(test)]
@@ -205,21 +209,21 @@ fn page(alloc: Global, words: &[String]) -> Result<String, AllocError> {
 
 /// Appends which argument is wrong and what to do about it, or that one is missing. Appends nothing where there are no
 /// arguments.
-fn add_fault(text: &mut String, words: &[String]) -> Result<(), AllocError> {
+fn add_fault(alloc: Global, text: &mut String, words: &[String]) -> Result<(), AllocError> {
     let Some(at) = refused_word(words) else {
         return Ok(());
     };
     match (words.get(at), words.last()) {
         (Some(word), _) => {
             text.push_str("acl: unexpected argument '")?;
-            text.push_str(word.as_str())?;
+            text.push_str(shown(alloc, word.as_str())?.as_str())?;
             text.push_str("'")?;
             text.push_str(hint_for(words, word.as_str()))?;
             text.push_str("\n\n")
         }
         (None, Some(last)) => {
             text.push_str("acl: an argument is missing after '")?;
-            text.push_str(last.as_str())?;
+            text.push_str(shown(alloc, last.as_str())?.as_str())?;
             text.push_str("'\n\n")
         }
         (None, None) => Ok(()),
@@ -230,7 +234,7 @@ fn add_fault(text: &mut String, words: &[String]) -> Result<(), AllocError> {
 fn usage(alloc: Global, words: &[String]) -> Result<String, AllocError> {
     let mut text = String::new(alloc);
     if !asks_for_help(words) {
-        add_fault(&mut text, words)?;
+        add_fault(alloc, &mut text, words)?;
     }
     let page = page(alloc, words)?;
     text.push_str(page.as_str())?;

@@ -1,6 +1,6 @@
 //! The help page of each command, the wrong argument that it names, and the lines that explain outcomes.
 
-use super::{Outcome, message_for};
+use super::{Outcome, awaited_line, message_for};
 use std::alloc::Global;
 use std::test::Fail;
 
@@ -45,7 +45,10 @@ view;k;s;--explain|acl: unexpected argument '--explain'; 'acl explain' writes th
 explain;k;s;--query;/a|acl: unexpected argument '--query'
 encode;k;-o;f|acl: unexpected argument '-o'; the output is written to standard output
 explain;k|Usage: acl explain <KEYS> <STORE>|The encrypted file|acl: an argument is missing after 'k'
-sample;0|Usage: acl sample <N>|from 1 to 20000|acl: unexpected argument '0'";
+sample;0|Usage: acl sample <N>|from 1 to 20000|acl: unexpected argument '0'
+fly\u{1b}[2J|acl: unexpected argument 'fly\\u{1b}[2J'
+preview;r;--query|acl: an argument is missing after '--query'
+encode;k;\u{7}x|acl: unexpected argument '\\u{7}x'";
 
 #[test]
 fn a_faulty_command_line_gets_its_wrong_argument_and_a_page(rt: HostRuntime) -> Result<(), Fail> {
@@ -146,7 +149,9 @@ WrongRoot|0|view;k;s|acl: s: the licence is for another file, or this one was ch
 StoreShort|0|view;k;s|acl: s: unexpected end of file
 StoreFault|0|view;k;s|acl: s: not found, or not a readable file
 BadFragment|0|view;k;s|acl: s: the file was changed
-SinkFault|0|sample;1|acl: standard output: cannot be written";
+SinkFault|0|sample;1|acl: standard output: cannot be written
+StoreFault|0|view;k;a\u{1b}[31mb\u{9b}c|acl: a\\u{1b}[31mb\\u{9b}c: not found, or not a readable file
+KeysFault|0|preview;\u{442}|acl: \u{442}: not found, or not a readable file";
 
 #[test]
 fn an_outcome_is_explained(rt: HostRuntime) -> Result<(), Fail> {
@@ -157,5 +162,37 @@ fn an_outcome_is_explained(rt: HostRuntime) -> Result<(), Fail> {
         text_for(rt.alloc(), "sample;1", Outcome::Done)?.as_str(),
         ""
     );
+    Ok(())
+}
+
+/// The line for a terminal, of a command with these arguments, which have `;` between them.
+fn awaited_for(alloc: Global, arguments: &str) -> Result<Option<&'static str>, Fail> {
+    let mut words = Vec::new(alloc);
+    for word in arguments.split(';') {
+        words.push(String::from_str(alloc, word)?)?;
+    }
+    Ok(awaited_line(words.as_slice()))
+}
+
+const AWAITED: &str = "preview;r|the lines of a document from the terminal
+preview;r;--explain|the lines of a document from the terminal
+encode;k|the lines of a document from the terminal
+seal;k|a licence body from the terminal
+view;k;s|a sealed licence from the terminal
+explain;k;s|a sealed licence from the terminal";
+
+#[test]
+fn a_command_says_what_it_waits_for(rt: HostRuntime) -> Result<(), Fail> {
+    for row in AWAITED.lines() {
+        let (arguments, piece) = row.split_once('|').ok_or("one field")?;
+        let line = awaited_for(rt.alloc(), arguments)?.ok_or("no line")?;
+        assert!(rt; line.contains(piece) && line.ends_with('\n'), "{row}");
+    }
+    for arguments in ["sample;1", "view;k", "fly", ""] {
+        assert!(rt;
+            awaited_for(rt.alloc(), arguments)?.is_none(),
+            "{arguments}"
+        );
+    }
     Ok(())
 }
