@@ -13,6 +13,3 @@ mod writing;
 
 pub use acl_outcome::{Outcome, outcome_text, status};
 pub use top::run;
-
-#[cfg(test)]
-mod tests;

@@ -20,9 +20,6 @@ use hints::{asks_for_help, hint_for};
 use shown::shown;
 use std::alloc::{AllocError, Global};
 
-#[cfg(test)]
-mod tests;
-
 /// A command of the program, with the texts of its help page.
 fn command(
     alloc: Global,

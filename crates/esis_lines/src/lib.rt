@@ -22,8 +22,3 @@ pub use laws::{
 };
 pub use output::write_doc;
 pub use reading::read_doc;
-
-#[cfg(test)]
-mod reading_tests;
-#[cfg(test)]
-mod tests;

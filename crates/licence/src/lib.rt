@@ -22,6 +22,3 @@ pub use laws::{
 };
 pub use sealed::{read_licence, seal_text};
 pub use terms::Licence;
-
-#[cfg(test)]
-mod tests;

@@ -11,6 +11,3 @@ mod walk;
 
 pub use question::does_pass;
 pub use truths::{PredRef, find_truths};
-
-#[cfg(test)]
-mod tests;

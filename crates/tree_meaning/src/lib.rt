@@ -20,6 +20,3 @@ pub use lines::write_explanation;
 pub use sign::sign_at;
 pub use view::view_tree;
 pub use view_writer::{WriteViewFault, write_view};
-
-#[cfg(test)]
-mod tests;

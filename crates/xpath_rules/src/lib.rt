@@ -23,6 +23,3 @@ pub use path_error::PathError;
 pub use reading::read_path;
 pub use states::{States, count_states};
 pub use writing::write_path;
-
-#[cfg(test)]
-mod tests;

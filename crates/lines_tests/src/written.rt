@@ -1,9 +1,9 @@
 //! A source is read whole, and a document is written. The expected answers were worked out by hand from what the calls
 //! promise. In a table each line is a case, with `|` between its fields.
 
-use super::*;
 use acl_model::{Bytes, Doc, Element, Item, Sequence};
 use acl_outside::{Failed, MemSink, MemSource};
+use esis_lines::{DocFault, ReadAllFault, read_all, read_doc, write_doc};
 use sqlite_items::{Boxed, Items};
 use std::alloc::{AllocError, Global};
 use std::test::Fail;

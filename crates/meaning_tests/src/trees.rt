@@ -4,7 +4,6 @@
 //! Documents and answers are written as their lines with `;` after each, and rules with `;` between them. The id of a
 //! rule is its own text. Memory is ample, so `NoMemory` fails a test.
 
-use super::*;
 use acl_model::{
     Axis, Bytes, Cmp, Doc, Element, Item, Name, Op, Operand, Path, Place, Pred, PredStep, Rule,
     Sequence, Sign, Step, Test,
@@ -15,6 +14,10 @@ use sqlite_items::{Boxed, Items};
 use std::alloc::Global;
 use std::process::Abort;
 use std::test::Fail;
+use tree_meaning::{
+    Told, WriteViewFault, explain_tree, selected, sign_at, view_tree, write_explanation,
+    write_explanation_of, write_view,
+};
 
 // ---- documents, as lines
 

@@ -1,10 +1,10 @@
 //! Tables of paths: each accepted form with the nearest refused one. The canonical spellings and the
 //! offsets of faults were worked out by hand from the grammar.
 
-use super::*;
 use acl_model::{Axis, Bytes, Op, Operand, Path, Pred, Test};
 use std::alloc::{AllocError, Global};
 use std::test::Fail;
+use xpath_rules::{PathError, States, count_states, read_path, write_path};
 
 // The offset of the fault in the bytes, or `None` where they are a path for Ana.
 fn place(alloc: Global, bytes: &[u8]) -> Result<Option<u32>, Fail> {

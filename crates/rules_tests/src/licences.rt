@@ -1,8 +1,11 @@
 //! Tables of texts: accepted ones with the nearest ones that are refused. Each expected answer was worked out by hand
 //! from the rules of the format. In a table each line is a case, `|` separates its fields, and `;` is a line feed.
 
-use super::*;
 use acl_model::{Operand, Sign};
+use licence::{
+    Keys, KeysError, Licence, LicenceFault, read_body, read_keys, read_licence, seal_text,
+    sealed_is_read, written_is_read,
+};
 use std::alloc::{AllocError, Global};
 use std::test::Fail;
 

@@ -1,6 +1,7 @@
 //! The help page of each command, the wrong argument that it names, and the lines that explain outcomes.
 
-use super::{Outcome, awaited_line, message_for};
+use acl_outcome::Outcome;
+use acl_usage::{awaited_line, message_for};
 use std::alloc::Global;
 use std::test::Fail;
 

@@ -1,11 +1,11 @@
 //! Flags worked out by hand from the meaning of a predicate: some target that its steps lead to has a
 //! value that is enough (XPath 1.0, 2.4). A document is written as its lines with `;` between them.
 
-use super::*;
 use acl_bits::Flags;
 use acl_model::{
     Axis, Bytes, Cmp, Doc, Element, Item, Name, Op, Operand, Pred, PredStep, Sequence, Test,
 };
+use predicate_walk::{PredRef, does_pass, find_truths};
 use sqlite_items::{Boxed, Items};
 use std::alloc::Global;
 use std::test::Fail;

@@ -1,8 +1,8 @@
 //! Bytes are read as documents. The expected answers were worked out by hand from the rules on lines. In a table each line
 //! is a case, `|` separates its fields, `;` is a line feed, and a fault is written as its message.
 
-use super::*;
 use acl_outside::{MemSink, MemSource, SureSource};
+use esis_lines::{DocFault, read_doc, write_doc};
 use std::alloc::Global;
 use std::test::Fail;
 

@@ -2,8 +2,8 @@
 //! Arguments and lines have `;` between them. Each text was worked out by hand from the rules of access: the nearest
 //! element that a rule selects decides, and a denial wins over a grant at the same element.
 
-use super::*;
 use acl_outside::{MemSink, MemSource, MemStore, Recorder};
+use acl_run::{Outcome, outcome_text, run, status};
 use std::alloc::Global;
 use std::process::Abort;
 use std::test::Fail;
