@@ -156,7 +156,7 @@ module _ (k : Numbers) (stream : List ℕ) (names : List (List ℕ)) (few : leng
       holds n below (ap (λ t. nat_eq (branch_of names e).tag n || t) (ap (λ m. has_member m n) (below_row e) ∙ has_member-row (holds_in e) n below ∙ there) ∙ or_true (nat_eq (branch_of names e).tag n))
 
   -- The numbers that are met with a child are those of its part.
-  met_child : (met : List ℕ) (t : ℕ → Bool) (head : Head) → met ≡ row_of t → met_with met head ≡ row_of (λ n. t n || ((nat_eq head.tag n || has_member head.below n) || false))
+  pub met_child : (met : List ℕ) (t : ℕ → Bool) (head : Head) → met ≡ row_of t → met_with met head ≡ row_of (λ n. t n || ((nat_eq head.tag n || has_member head.below n) || false))
   met_child met t head is =
       row_of-same (λ n. nat_eq n head.tag || (is_member met n || is_member head.below n)) (λ n. t n || ((nat_eq head.tag n || has_member head.below n) || false)) (λ n below.
       ap (λ b. nat_eq n head.tag || (b || is_member head.below n)) (ap (λ m. is_member m n) is ∙ is_member-row_of t n below)
@@ -261,7 +261,7 @@ module _ (k : Numbers) (stream : List ℕ) (names : List (List ℕ)) (few : leng
 
   -- ---- items
 
-  met_twice : (a b c : Bool) → ((a || (b || false)) || c) ≡ (a || (b || c))
+  pub met_twice : (a b c : Bool) → ((a || (b || false)) || c) ≡ (a || (b || c))
   met_twice true b c = refl
   met_twice false true c = refl
   met_twice false false c = refl

@@ -1,5 +1,5 @@
 -- How a walk over a file goes on by a step, and between two moments.
-use Rattle.std.proofs.Common.{◌≡◌, suc, ℕ, ◌<◌, Bool, true, false, Option, Some, None, List, ◌∷◌, length, refl, ap, sym, ◌∙◌, subst, arith}
+use Rattle.std.proofs.Common.{◌≡◌, ℕ, ◌<◌, Bool, true, false, Option, Some, None, List, length, refl, ap, sym, ◌∙◌, subst, arith, ◌||◌, ◌⊎◌, inl, inr}
 use Rattle.std.specs.Prelude.{Result, Err}
 use Rattle.std.proofs.lemmas.Option.{none-some, same_Some}
 use Rattle.acl_model.specs.Stream.{plain}
@@ -10,13 +10,15 @@ use Rattle.acl_outside.specs.declared.read_fault.ReadFault.TheVariants.{BadIndex
 use Rattle.acl_walk.specs.Nesting.{MayFollow, stage_after}
 use Rattle.acl_walk.specs.SpotMoves.{Falls, StandsAt}
 use Rattle.acl_walk.specs.declared.event.Event.{Event}
-use Rattle.fragment_open.specs.Sound.{sound_for}
+use Rattle.fragment_open.specs.Settled.{IsQuiet}
+use Rattle.fragment_open.specs.Sound.{agrees_with, sound_for, tells_file}
 use Rattle.fragment_open.specs.declared.head.Head.{Head}
-use Rattle.skip_decode.specs.CheckedStream.{Fetched, IsSoundStream}
+use Rattle.skip_decode.specs.CheckedStream.{Fetched, IsSoundStream, store_moment}
 use Rattle.skip_decode.specs.FileWalk.{FileFixed, FileWent, IsFileOrigin, IsFilePlace, IsFileSpot, moment_of, numbers_in, place_of}
 use Rattle.skip_decode.specs.Fragments.{ForEach}
 use Rattle.skip_decode.specs.Positions.{Numbers, Position}
 use Rattle.skip_decode.specs.Spots.{stage_of}
+use Rattle.skip_decode.specs.StoreWent.{StoreMoment, StoreWent}
 use Rattle.skip_decode.specs.StreamEvents.{events_left, stream_events}
 use Rattle.skip_decode.specs.StreamSteps.{Change, Stay, Open, Close, Step, levels_after, position_after, step_at}
 use Rattle.skip_decode.specs.declared.position.Level.{Level}
@@ -78,46 +80,95 @@ module _ (k : FileFixed) (s : Position) (step : Step) (new : Position) (moved : 
 
 -- ---- between two moments
 
-is_false : (b : Bool) → (b ≡ true → ⊥) → b ≡ false
+pub is_false : (b : Bool) → (b ≡ true → ⊥) → b ≡ false
 is_false true never = absurd (never refl)
 is_false false never = refl
 
-module _ (old new : Head) (names : List (List ℕ)) (before after : Option (List StoreRead)) (held later : Option (List ℕ)) (fetched : Fetched old new before after held later) where
+-- what a store shows where its reader answers BadIndex without a refusal of the opener
+bad-reads : (w v : StoreMoment) → StoreWent (store_moment w.served w.held w.faults None) (store_moment v.served v.held v.faults None)
+    → StoreWent (store_moment w.served w.held w.faults None) (store_moment v.served v.held v.faults (Some BadIndex))
+bad-reads w v reads = record {
+  held_is = reads.held_is;
+  grows = reads.grows;
+  stays = λ fault is. absurd (none-some fault is);
+  silent = λ fault is. absurd (none-some fault is);
+  silent_faults = λ fault is. absurd (none-some fault is);
+  never_falls = reads.never_falls;
+  quiet = reads.quiet;
+  regular = reads.regular;
+  whole = λ are. λ long. reads.whole are refl;
+  folds = reads.folds;
+  cause = λ none. tt;
+}
+
+-- where the file is held that a document has, a walk is sound for it
+held-sound : (served : Option (List StoreRead)) (held : Option (List ℕ)) (d : Doc) (key : List ℕ) → tells_file held d key ≡ true → sound_for served held d key ≡ true
+held-sound served held d key told = ap (λ b. agrees_with served d key || b) told ∙ or-true (agrees_with served d key)
+  where
+    or-true : (b : Bool) → (b || true) ≡ true
+    or-true true = refl
+    or-true false = refl
+
+module _ (old new : Head) (names : List (List ℕ)) (w v : StoreMoment) (fetched : Fetched old new w v) where
   -- a document for which it is sound was an origin, if it is one
-  pub was-origin : (d : Doc) (f g : Option ReadFault) → IsFileOrigin (moment_of new names after later g).fixed d → IsFileOrigin (moment_of old names before held f).fixed d
-  was-origin d f g origin = subst (λ (h : Head). IsFileOrigin (moment_of h names before held f).fixed d) fetched.head origin
+  pub was-origin : (d : Doc) (f g : Option ReadFault) → IsFileOrigin (moment_of new names v.served v.held v.faults g).fixed d → IsFileOrigin (moment_of old names w.served w.held w.faults f).fixed d
+  was-origin d f g origin = subst (λ (h : Head). IsFileOrigin (moment_of h names w.served w.held w.faults f).fixed d) fetched.head origin
 
   -- a stream that it may be reading
-  pub plain-may_be : (d : Doc) (f : Option ReadFault) → IsFileOrigin (moment_of old names before held f).fixed d → sound_for after later d new.key ≡ true
-      → IsSoundStream after later new.header new.top new.key (plain d)
+  pub plain-may_be : (d : Doc) (f : Option ReadFault) → IsFileOrigin (moment_of old names w.served w.held w.faults f).fixed d → sound_for v.served v.held d new.key ≡ true
+      → IsSoundStream v.served v.held new.header new.top new.key (plain d)
   plain-may_be d f origin sound =
-      let now : IsFileOrigin (moment_of new names after later f).fixed d = subst (λ (h : Head). IsFileOrigin (moment_of h names after later f).fixed d) (sym fetched.head) origin in
+      let now : IsFileOrigin (moment_of new names v.served v.held v.faults f).fixed d = subst (λ (h : Head). IsFileOrigin (moment_of h names v.served v.held v.faults f).fixed d) (sym fetched.head) origin in
       record { document = d; origin = now.0; sound = sound; stream_is = refl }
 
   -- only fetches, and a refusal that came
-  pub went-on : (f g : Option ReadFault) → ((fault : ReadFault) → f ≡ Some fault → g ≡ Some fault)
-      → (f ≡ None → g ≡ Some BadIndex → (d : Doc) → IsFileOrigin (moment_of old names before held f).fixed d → sound_for after later d new.key ≡ true → ⊥)
-      → FileWent (moment_of old names before held f) (moment_of new names after later g)
-  went-on f g stays bad = record {
-    same = ap (λ (h : Head). (moment_of h names after later g).fixed) fetched.head;
+  went-on : (f g : Option ReadFault) → StoreWent (store_moment w.served w.held w.faults f) (store_moment v.served v.held v.faults g)
+      → (f ≡ None → g ≡ Some BadIndex → (d : Doc) → IsFileOrigin (moment_of old names w.served w.held w.faults f).fixed d → sound_for v.served v.held d new.key ≡ true → ⊥)
+      → ((d : Doc) → IsFileOrigin (moment_of new names v.served v.held v.faults g).fixed d → tells_file v.held d new.key ≡ true → f ≡ None → IsQuiet g)
+      → FileWent (moment_of old names w.served w.held w.faults f) (moment_of new names v.served v.held v.faults g)
+  went-on f g reads bad held = record {
+    same = ap (λ (h : Head). (moment_of h names v.served v.held v.faults g).fixed) fetched.head;
     was_sound = fetched.was_sound;
-    stays = stays;
-    bad_index = λ quiet is d origin. is_false (sound_for after later d new.key) (bad quiet is d (was-origin d f g origin));
+    bad_index = λ quiet is d origin. is_false (sound_for v.served v.held d new.key) (bad quiet is d (was-origin d f g origin));
+    reads = reads;
+    held = held;
   }
+
+  -- with these refusals
+  reads-with : (f g : Option ReadFault) → w.fault ≡ f → v.fault ≡ g → StoreWent (store_moment w.served w.held w.faults f) (store_moment v.served v.held v.faults g)
+  reads-with f g before after =
+      subst (λ (o : Option ReadFault). StoreWent (store_moment w.served w.held w.faults o) (store_moment v.served v.held v.faults g)) before
+      (subst (λ (o : Option ReadFault). StoreWent w (store_moment v.served v.held v.faults o)) after fetched.reads)
+
+  -- nothing was refused
+  pub went-ok : (f : Option ReadFault) → f ≡ None → w.fault ≡ None → v.fault ≡ w.fault → FileWent (moment_of old names w.served w.held w.faults f) (moment_of new names v.served v.held v.faults f)
+  went-ok f none quiet still =
+      went-on f f (reads-with f f (quiet ∙ sym none) (still ∙ (quiet ∙ sym none)))
+      (λ is bad d origin sound. none-some BadIndex (sym is ∙ bad)) (λ d origin told is. subst IsQuiet (sym is) tt)
+
+  -- a step was refused: by the opener, or as of no document's stream
+  pub went-err : (f : Option ReadFault) (fault : ReadFault) → f ≡ None → w.fault ≡ None → (v.fault ≡ Some fault) ⊎ ((fault ≡ BadIndex) × (v.fault ≡ w.fault))
+      → (Some fault ≡ Some BadIndex → (d : Doc) → IsFileOrigin (moment_of old names w.served w.held w.faults f).fixed d → sound_for v.served v.held d new.key ≡ true → ⊥)
+      → FileWent (moment_of old names w.served w.held w.faults f) (moment_of new names v.served v.held v.faults (Some fault))
+  went-err f fault none quiet (inl refused) bad =
+      went-on f (Some fault) (reads-with f (Some fault) (quiet ∙ sym none) refused) (λ is. bad)
+      (λ d origin told is. subst IsQuiet refused (fetched.held d origin.0 told quiet))
+  went-err f fault none quiet (inr missed) bad =
+      went-on f (Some fault)
+      (subst (λ (o : Option ReadFault). StoreWent (store_moment w.served w.held w.faults o) (store_moment v.served v.held v.faults (Some fault))) (sym none)
+      (subst (λ (x : ReadFault). StoreWent (store_moment w.served w.held w.faults None) (store_moment v.served v.held v.faults (Some x))) (sym missed.0)
+      (bad-reads w v (reads-with None None quiet (missed.1 ∙ quiet))))) (λ is. bad)
+      (λ d origin told is. absurd (bad (ap (λ (x : ReadFault). Some x) missed.0) d (was-origin d f (Some fault) origin) (held-sound v.served v.held d new.key told)))
 
   -- where no stream that it may be reading has a step, the walk is sound for no origin
   pub bad-index : (numbers : Numbers) (s : Position) (f : Option ReadFault) → numbers ≡ numbers_in old.header
-      → ((d : Doc) → IsFileOrigin (moment_of old names before held f).fixed d → sound_for before held d old.key ≡ true → IsFilePlace d s)
-      → ForEach (IsSoundStream after later new.header new.top new.key) (λ stream. step_at numbers stream s ≡ None)
-      → (d : Doc) → IsFileOrigin (moment_of old names before held f).fixed d → sound_for after later d new.key ≡ true → ⊥
+      → ((d : Doc) → IsFileOrigin (moment_of old names w.served w.held w.faults f).fixed d → sound_for w.served w.held d old.key ≡ true → IsFilePlace d s)
+      → ForEach (IsSoundStream v.served v.held new.header new.top new.key) (λ stream. step_at numbers stream s ≡ None)
+      → (d : Doc) → IsFileOrigin (moment_of old names w.served w.held w.faults f).fixed d → sound_for v.served v.held d new.key ≡ true → ⊥
   bad-index numbers s f are placed none d origin sound =
       let place : IsFilePlace d s = placed d origin (fetched.was_sound d sound) in
-      file-some_step (moment_of old names before held f).fixed d origin s place
+      file-some_step (moment_of old names w.served w.held w.faults f).fixed d origin s place
       (subst (λ (n : Numbers). step_at n (plain d) s ≡ None) are (none (plain d) (plain-may_be d f origin sound)))
-
--- no fetch
-pub fetched-still : (head : Head) (served : Option (List StoreRead)) (held : Option (List ℕ)) → Fetched head head served served held held
-fetched-still head served held = record { head = refl; constant = refl; was_sound = λ d sound. sound }
 
 -- what is no value is none
 pub none-so : {A : Type 0} (o : Option A) → ((x : A) → o ≡ Some x → ⊥) → o ≡ None

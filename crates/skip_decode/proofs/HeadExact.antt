@@ -426,7 +426,7 @@ same_size : (members number w inner : ℕ) (bit : Bool) (other : ℕ) → nat_eq
 same_size members number w inner bit other one two =
     ap (λ b. (2 + number + cond b members 0 + w + 7) / 8) (one ∙ sym two)
 
-taken_within : (left n : ℕ) (bytes part : List ℕ) → take_within left n bytes ≡ Some part
+pub taken_within : (left n : ℕ) (bytes part : List ℕ) → take_within left n bytes ≡ Some part
     → (n ≤ left) × (take n bytes ≡ part)
 unfolding take_within
 taken_within left n bytes part is =
@@ -478,3 +478,19 @@ head_exact members w left bytes head row fit is =
       within = omega (arith, inside, size);
       fits = whole.read.fits;
     }
+
+-- The size of a head by the bit for a tag set in its first bytes is the one that the head has.
+pub head-size : (members : List ℕ) (w front long inner : ℕ) (bytes : List ℕ) (head : Head) → IsRow members
+    → inner_bit (number_width (length members)) (take front bytes) ≡ Some inner → whole_head members w (take long bytes) ≡ Some head
+    → head_bytes (length members) (number_width (length members)) inner w ≡ head.bytes
+head-size members w front long inner bytes head row bit is =
+    let number : ℕ = number_width (length members) in
+    let whole = whole_read members w (take long bytes) head (row_rises members row) is in
+    let same : nat_eq inner 1 ≡ nat_eq (inner_of head.below) 1 =
+    same_inner number front long bytes inner (front_of members head.tag)
+    (set_of members head.below ++ (model.bits_of w head.long ++ whole.back)) (nat_eq (inner_of head.below) 1)
+    (inner_bit-at number (take front bytes) inner bit)
+    (whole.read.spelled ∙ head_split members w head.tag head.below head.long whole.back)
+    (front_long members head.tag) in
+    same_size (length members) number w inner (nat_eq (inner_of head.below) 1) (inner_of head.below) same refl
+    ∙ sym whole.read.counted

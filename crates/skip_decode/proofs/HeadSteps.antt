@@ -22,7 +22,7 @@ use Rattle.skip_decode.specs.StreamSteps.{Step, Open, inner_of, saved_bytes, met
 use Rattle.skip_decode.specs.inside.TreeReading.{take_bits, head_bytes, take_head_on}
 use Rattle.skip_decode.proofs.Taking.{take_bits-model, bits_of_bytes-append, bits_of_bytes-model}
 use Rattle.skip_decode.proofs.Heads.{IsPart, one_bit, take_head_on-read, head_bytes-counted, length-row, rank-member, number-fits}
-use Rattle.skip_decode.proofs.Items.{bits_after, first_bit}
+use Rattle.skip_decode.proofs.FirstBits.{bits_after, first_bit}
 use Rattle.skip_decode.proofs.Runs.{Runs, one_step}
 use Rattle.skip_decode.proofs.PieceRuns.{at}
 

@@ -15,7 +15,7 @@ use Rattle.acl_model.specs.Stream.{has_member, numbers_with, rank, set_bits, hea
 use Rattle.acl_model.proofs.WidthLaws.{least_width-least}
 use Rattle.acl_model.proofs.SizeLaws.{length-head_bits, length-set_bits}
 use Rattle.skip_decode.specs.declared.head.Head.{Head}
-use Rattle.skip_decode.specs.inside.TreeReading.{take_bits, with_number, take_members, not_empty, take_below, head_bytes, take_head_on, take_head}
+use Rattle.skip_decode.specs.inside.TreeReading.{take_bits, with_number, take_members, not_empty, take_below, head_bytes, take_head_on}
 use Rattle.skip_decode.specs.StreamSteps.{inner_of}
 use Rattle.skip_decode.proofs.Taking.{take_bits-prefix, take_bits-model}
 
@@ -225,10 +225,3 @@ take_head_on-read p q w tag long back passes small part fits =
     ∙ take_set (head tag) p q (row_of q) after refl part
     ∙ ap (option_map (λ long. (record { tag = tag; below = row_of q; long = long.0; bytes = head_bytes (length members) number (inner_of (row_of q)) w }, long.1))) (take_bits-model w long back fits)
     ∙ ap (λ n. Some (record { tag = tag; below = row_of q; long = long; bytes = n }, back)) (head_bytes-counted members w tag (row_of q) long)
-
--- The bits of a head after the first are read as that head.
-pub take_head-read : (p q : ℕ → Bool) (w tag long : ℕ) (back : List Bool) → p tag ≡ true → tag < 256 → IsPart q p → long < 2 ^ w
-    → take_head (row_of p) w (model.bits_of (binary_length (length (row_of p) - 1)) (rank (row_of p) tag) ++ (set_bits (row_of p) (row_of q) ++ (model.bits_of w long ++ back)))
-    ≡ Some (record { tag = tag; below = row_of q; long = long; bytes = (length (head_bits (row_of p) w tag (row_of q) long) + 7) / 8 })
-unfolding take_head
-take_head-read p q w tag long back passes small part fits = ap (option_map (λ read. read.0)) (take_head_on-read p q w tag long back passes small part fits)

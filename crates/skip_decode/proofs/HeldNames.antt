@@ -37,11 +37,11 @@ use Rattle.skip_decode.proofs.Starts.{start_names-formed}
 abbrev pub names_in : List Item → List (List ℕ)
 names_in items = flat_map (λ starts. starts) (map item_start_names items)
 
-either : (a b : Bool) → (a || b) ≡ true → (a ≡ true) ⊎ (b ≡ true)
+pub either : (a b : Bool) → (a || b) ≡ true → (a ≡ true) ⊎ (b ≡ true)
 either true b so = inl refl
 either false b so = inr so
 
-or_true : (b : Bool) → (b || true) ≡ true
+pub or_true : (b : Bool) → (b || true) ≡ true
 or_true true = refl
 or_true false = refl
 
@@ -101,7 +101,7 @@ children_names [] each = refl
 children_names (i ∷ items) each = each.0 items ∙ ap (λ l. item_start_names i ++ l) (children_names items each.1)
 
 -- The tag set of an element has the names in its items.
-tag_set-names : (e : Element) → tag_set e ≡ names_in e.items
+pub tag_set-names : (e : Element) → tag_set e ≡ names_in e.items
 tag_set-names e = children_names e.items (names_first e.items)
 
 -- ---- names are held
@@ -167,12 +167,12 @@ module _ (names : List (List ℕ)) (few : length names ≤ 256) (name : List ℕ
 -- ---- the tag set covers the element
 
 -- what holds of the value that an option has
-some_value : (o : Option ℕ) (below : List ℕ) → ((n : ℕ) → o ≡ Some n → is_member below n ≡ true) → IfSome o (λ n. is_member below n ≡ true)
+pub some_value : (o : Option ℕ) (below : List ℕ) → ((n : ℕ) → o ≡ Some n → is_member below n ≡ true) → IfSome o (λ n. is_member below n ≡ true)
 some_value None below h = tt
 some_value (Some n) below h = h n refl
 
 -- A set with a member isn't empty.
-has_some : (below : List ℕ) (n : ℕ) → has_member below n ≡ true → 0 < length below
+pub has_some : (below : List ℕ) (n : ℕ) → has_member below n ≡ true → 0 < length below
 has_some [] n has = absurd (true≢false (sym has))
 has_some (m ∷ below) n has = omega arith
 
@@ -185,7 +185,7 @@ module _ (names : List (List ℕ)) (few : length names ≤ 256) where
       ap (is_member (branch_of names e).below) (sym number) ∙ is_member-has (branch_of names e).below (tag_of names name) ∙ below_holds names few name known e good there
 
   -- Where an element has a child, a name is in its items.
-  first_child : (es : List Element) (l : List (List ℕ)) → flat_map names_of es ≡ l → 0 < length es → (name : List ℕ) × (has_name l name ≡ true)
+  pub first_child : (es : List Element) (l : List (List ℕ)) → flat_map names_of es ≡ l → 0 < length es → (name : List ℕ) × (has_name l name ≡ true)
   first_child [] l is some = absurd (omega (arith, some))
   first_child (e ∷ es) l is some =
       let starts : e.name ∷ (names_in e.items ++ flat_map names_of es) ≡ l = ap (λ s. s ++ flat_map names_of es) (sym (names_of-start e ∙ start_names_is e)) ∙ is in
@@ -215,7 +215,7 @@ module _ (names : List (List ℕ)) (few : length names ≤ 256) where
 
 -- ---- the tag of an element
 
-no_dummy : (name : List ℕ) → is_name name ≡ true → is_dummy_name name ≡ false
+pub no_dummy : (name : List ℕ) → is_name name ≡ true → is_dummy_name name ≡ false
 no_dummy [] named = refl
 no_dummy (b ∷ []) named = ⊎_elim
     (λ same.
@@ -226,14 +226,14 @@ no_dummy (b ∷ []) named = ⊎_elim
 no_dummy (b ∷ c ∷ bs) named = refl
 
 -- a name among valid names is valid
-among_valid : (names : List (List ℕ)) (name : List ℕ) → list_all is_name names ≡ true → has_name names name ≡ true → is_name name ≡ true
+pub among_valid : (names : List (List ℕ)) (name : List ℕ) → list_all is_name names ≡ true → has_name names name ≡ true → is_name name ≡ true
 among_valid [] name all there = absurd (true≢false (sym there))
 among_valid (first ∷ names) name all there = elim (either (pointwise nat_eq name first) (has_name names name) there) [
   | inl same ↦ ap is_name ((bytes_decides name first).0 same) ∙ first_so (is_name first) (list_all is_name names) all
   | inr later ↦ among_valid names name (second_so (is_name first) (list_all is_name names) all) later
 ]
 
-number_some : (o : Option ℕ) → is_some o ≡ true → o ≡ Some (unwrap_or o 0)
+pub number_some : (o : Option ℕ) → is_some o ≡ true → o ≡ Some (unwrap_or o 0)
 number_some None some = absurd (true≢false (sym some))
 number_some (Some n) some = refl
 

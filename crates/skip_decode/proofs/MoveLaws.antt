@@ -1,22 +1,19 @@
 -- What the steps of the definitions do, whatever bytes are read.
-use Rattle.std.proofs.Common.{◌≡◌, ℕ, zero, suc, ◌+◌, ◌-◌, ◌*◌, ◌%◌, ◌<◌, ◌≤◌, Bool, true, false, cond, ◌&&◌, nat_le, nat_lt, nat_eq, min, Option, Some, None, List, [], ◌∷◌, refl, ap, sym, ◌∙◌, subst, arith, All}
+use Rattle.std.proofs.Common.{◌≡◌, ℕ, ◌+◌, ◌-◌, ◌<◌, ◌≤◌, Bool, true, false, cond, nat_le, nat_eq, Option, Some, None, List, refl, ap, sym, ◌∙◌, subst, arith}
 use Rattle.std.specs.Prelude.{IfOk, IfSome, Result, Ok, Err}
 use Rattle.std.specs.Cmp.Lexicographic.{pointwise}
 use Rattle.std.proofs.lemmas.Bool.Decides.{nat_tests}
-use Rattle.std.proofs.lemmas.Option.{same_Some, none-some}
 use Rattle.acl_bits.specs.declared.piece.Piece.{Piece}
 use Rattle.acl_walk.specs.Nesting.{FitsLine, phase_after_attr, phase_after_text}
 use Rattle.acl_walk.specs.declared.event.Event.{Event}
 use Rattle.acl_walk.specs.declared.event.Event.TheVariants as event
 use Rattle.skip_decode.specs.declared.head.Head.{Head}
 use Rattle.skip_decode.specs.declared.position.Level.{Level}
-use Rattle.skip_decode.specs.declared.position.Next.{Next}
 use Rattle.skip_decode.specs.declared.position.Next.TheVariants.{Item, Text, Attribute, Attributes}
 use Rattle.skip_decode.specs.Positions.{Numbers, above_root}
-use Rattle.skip_decode.specs.Spots.{FitsInside, phase_of}
-use Rattle.skip_decode.specs.StreamEvents.{weight}
+use Rattle.skip_decode.specs.Spots.{phase_of}
 use Rattle.skip_decode.specs.StreamSteps.{Step, Change, Stay, Open, Close, fragment_left, after_piece, next_in_text, next_in_attribute, may_begin, parent_with, level_of, begun_with, finish_step, checked_finish}
-use Rattle.skip_decode.specs.inside.Moves.{Along, IsAttribute, IsInHead, AttributeMove, HeadMove, TextMove, AttributeMoves, TextMoves, IsHeadIn, BeginMove, ItemMove, BeginMoves, ItemMoves}
+use Rattle.skip_decode.specs.inside.Moves.{IsAttribute, IsInHead, AttributeMove, HeadMove, TextMove, AttributeMoves, TextMoves, IsHeadIn, BeginMove, ItemMove, BeginMoves, ItemMoves}
 use Rattle.skip_decode.proofs.StepKinds.{cond_some}
 use Rattle.skip_decode.proofs.SpotHeads.{few_digits, range_so, whole_fits}
 use Rattle.skip_decode.specs.StreamHeads.{whole_head}
@@ -25,6 +22,11 @@ use Rattle.skip_decode.specs.StreamHeads.{whole_head}
 pub some-so : {A : Type 0} {P Q : A → Type 0} (o : Option A) → ((x : A) → P x → Q x) → IfSome o P → IfSome o Q
 some-so None so held = tt
 some-so (Some x) so held = so x held
+
+-- what is true of a value is true with what follows from two facts of it
+pub both-so : {A : Type 0} {P R Q : A → Type 0} (o : Option A) → ((x : A) → P x → R x → Q x) → IfSome o P → IfSome o R → IfSome o Q
+both-so None so one two = tt
+both-so (Some x) so one two = so x one two
 
 -- the same of a result
 pub ok-so : {A E : Type 0} {P Q : A → Type 0} (r : Result A E) → ((x : A) → P x → Q x) → IfOk r P → IfOk r Q
@@ -127,6 +129,23 @@ begun-moves depth around parent place head (Some step) rises in_head is = λ k s
       few = few;
     })
 
+-- the start of an element goes past its head
+pub begun-place : (depth around : ℕ) (parent : Level) (place : ℕ) (head : Head) (o : Option Step)
+    → o ≡ begun_with depth around parent place head → IfSome o (λ s. s.place ≡ place + head.bytes)
+unfolding begun_with
+begun-place depth around parent place head None is = tt
+begun-place depth around parent place head (Some step) is =
+    let found = cond_some (may_begin depth around parent place head) (record {
+      event = event.Begin head.tag head.below;
+      next = _;
+      place = place + head.bytes;
+      change = Open (parent_with parent head) (level_of place head);
+    }) step (sym is) in
+    sym (ap (λ (s : Step). s.place) found.1)
+
+pub begun-rises : {members : List ℕ} (place : ℕ) (head : Head) (step : Step) → IsHeadIn members head → step.place ≡ place + head.bytes → place < step.place
+begun-rises place head step in_head is = let some = in_head.some in omega (arith, some, is)
+
 -- a start of an element is one of an item
 pub begin-item : (depth around : ℕ) (level : Level) (place : ℕ) (step : Step) → BeginMoves depth around level place step → ItemMoves depth around level place step
 begin-item depth around level place step is = λ k same all. by k step.change (is k same all)
@@ -147,6 +166,14 @@ finish-item depth around level place None is = tt
 finish-item depth around level place (Some step) is = λ k same all.
     let found = cond_some (pointwise nat_eq level.met level.below) (finish_step level place) step (sym is) in
     subst (λ (s : Step). ItemMove k around level place s s.change) found.1 refl
+
+-- the end of an element leaves the byte offset
+pub finish-place : (level : Level) (place : ℕ) (o : Option Step) → o ≡ checked_finish level place → IfSome o (λ s. s.place ≡ place)
+unfolding checked_finish
+finish-place level place None is = tt
+finish-place level place (Some step) is =
+    let found = cond_some (pointwise nat_eq level.met level.below) (finish_step level place) step (sym is) in
+    sym (ap (λ (s : Step). s.place) found.1)
 
 -- the start of the root
 pub root-begins : (k : Numbers) (place : ℕ) (step : Step) → BeginMoves k.depth 0 (above_root k) place step → BeginMove k 0 (above_root k) place step step.change

@@ -27,7 +27,7 @@ use Rattle.skip_decode.specs.Fragments.{FitsNone, ForEach, fragment_of}
 use Rattle.skip_decode.specs.inside.CheckedLaws.{whole_stream}
 
 -- a store that tells a file holds it
-file-told : (held : Option (List ℕ)) (d : Doc) (key : List ℕ) → tells_file held d key ≡ true → held ≡ Some (file d key)
+pub file-told : (held : Option (List ℕ)) (d : Doc) (key : List ℕ) → tells_file held d key ≡ true → held ≡ Some (file d key)
 file-told None d key told = absurd (true≢false (sym told))
 file-told (Some bytes) d key told = ap (λ (l : List ℕ). Some l) ((bytes_eq-Decides bytes (file d key)).0 told)
 

@@ -28,7 +28,7 @@ at levels next place = record { levels = levels; next = next; place = place }
 pub drop-on : (stream : List ℕ) (place : ℕ) (prefix back : List ℕ) (n : ℕ) → drop place stream ≡ prefix ++ back → length prefix ≡ n → drop (place + n) stream ≡ back
 drop-on stream place prefix back n there long = sym (drop-drop n place stream) ∙ ap (drop n) there ∙ drop_at prefix back n long
 
-both_so : (s t : Bool) → s ≡ true → t ≡ true → (s && t) ≡ true
+pub both_so : (s t : Bool) → s ≡ true → t ≡ true → (s && t) ≡ true
 both_so s t p q = ap (λ b. b && t) p ∙ q
 
 -- The two parts of bytes that fit a line fit a line.

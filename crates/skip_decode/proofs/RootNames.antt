@@ -41,13 +41,13 @@ not_so false h = refl
 -- ---- names by their numbers
 
 -- There is a name with each number.
-name_at : (names : List (List ℕ)) (k : ℕ) → k < length names → (name : List ℕ) × (slice_get names k ≡ Some name)
+pub name_at : (names : List (List ℕ)) (k : ℕ) → k < length names → (name : List ℕ) × (slice_get names k ≡ Some name)
 name_at [] k within = absurd (omega (arith, within))
 name_at (name ∷ names) zero within = (name, refl)
 name_at (name ∷ names) (suc k) within = name_at names k (omega (arith, within))
 
 -- It is one of the names.
-has_at : (names : List (List ℕ)) (k : ℕ) (name : List ℕ) → slice_get names k ≡ Some name → has_name names name ≡ true
+pub has_at : (names : List (List ℕ)) (k : ℕ) (name : List ℕ) → slice_get names k ≡ Some name → has_name names name ≡ true
 has_at [] k name found = absurd (none-some name found)
 has_at (first ∷ names) zero name found =
     ap (λ l. pointwise nat_eq name l || has_name names name) (same_Some first name found) ∙ ap (λ b. b || has_name names name) (nat_list_eq_equiv.refl name)
@@ -70,7 +70,7 @@ later_differs before names x k new found =
     true≢false (sym (nat_list_eq_equiv.refl x) ∙ other)
 
 -- So a name has one number.
-one_number : (before names : List (List ℕ)) (i j : ℕ) (name : List ℕ) → are_new before names ≡ true → slice_get names i ≡ Some name → slice_get names j ≡ Some name → i ≡ j
+pub one_number : (before names : List (List ℕ)) (i j : ℕ) (name : List ℕ) → are_new before names ≡ true → slice_get names i ≡ Some name → slice_get names j ≡ Some name → i ≡ j
 one_number before [] i j name new one other = absurd (none-some name one)
 one_number before (x ∷ names) zero zero name new one other = refl
 one_number before (x ∷ names) zero (suc j) name new one other =

@@ -1,13 +1,9 @@
--- The members of the virtual parent, and how a tree is read after its first bit.
-use Rattle.std.proofs.Common.{◌≡◌, ℕ, zero, suc, ◌+◌, ◌-◌, ◌≤◌, Bool, true, false, cond, nat_lt, Some, List, [], ◌∷◌, ◌++◌, length, refl, ap, sym, ◌∙◌, arith, append-nil}
+-- The members of the virtual parent.
+use Rattle.std.proofs.Common.{◌≡◌, ℕ, zero, suc, ◌+◌, ◌-◌, ◌≤◌, true, false, cond, nat_lt, [], ◌∷◌, ◌++◌, refl, ap, sym, ◌∙◌, arith, append-nil}
 use Rattle.std.specs.List.{range_with_len}
-use Rattle.std.specs.Option.{option_and_then, option_map}
 use Rattle.std.proofs.lemmas.Bool.Decides.{nat_tests}
-use Rattle.acl_bits.specs.FilledBits.{bits_of_bytes}
 use Rattle.acl_bits.specs.Row.{row_of}
 use Rattle.acl_bits.specs.inside.RowLaws.{numbers_below, range_with_len-more, row_of-numbers_below}
-use Rattle.acl_model.specs.Width.{binary_length}
-use Rattle.skip_decode.specs.inside.TreeReading.{take_bits, take_child, read_element, read_tree}
 
 -- All numbers below n are below c.
 below_up : (c n : ℕ) → n ≤ c → numbers_below (λ m. nat_lt m c) n ≡ range_with_len 0 n
@@ -36,13 +32,3 @@ pub range-row : (c : ℕ) → c ≤ 256 → range_with_len 0 c ≡ row_of (λ k.
 range-row c few =
     let all : c + (256 - c) ≡ 256 = omega arith in
     sym (below_past c (256 - c)) ∙ ap (numbers_below (λ m. nat_lt m c)) all ∙ sym (row_of-numbers_below (λ k. nat_lt k c))
-
--- After the first bit, the tree is read as its root.
-pub tree-after : (names : List (List ℕ)) (deep : ℕ) (bytes members : List ℕ) (w first : ℕ) (bits : List Bool) → members ≡ row_of (λ k. nat_lt k (length names)) → w ≡ binary_length (length bytes)
-    → take_bits 1 (bits_of_bytes bytes) ≡ Some (first, bits)
-    → read_tree names deep bytes ≡ option_map (λ p. record { root = p.0 }) (take_child (read_element names deep) names members w bytes bits)
-unfolding read_tree
-tree-after names deep bytes members w first bits set wide taken =
-    ap (option_and_then (λ first. option_map (λ p. record { root = p.0 }) (take_child (read_element names deep) names (row_of (λ k. nat_lt k (length names))) (binary_length (length bytes)) bytes first.1))) taken
-    ∙ ap (λ (m : List ℕ). option_map (λ p. record { root = p.0 }) (take_child (read_element names deep) names m (binary_length (length bytes)) bytes bits)) (sym set)
-    ∙ ap (λ v. option_map (λ p. record { root = p.0 }) (take_child (read_element names deep) names members v bytes bits)) (sym wide)

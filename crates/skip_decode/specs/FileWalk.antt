@@ -9,12 +9,15 @@ use Rattle.acl_outside.specs.declared.read_fault.ReadFault.TheVariants.{BadIndex
 use Rattle.acl_walk.specs.Listed.{AreNames, IsListOf}
 use Rattle.acl_walk.specs.Nesting.{first_stage}
 use Rattle.acl_walk.specs.Open.{tags_at}
-use Rattle.fragment_open.specs.Sound.{IsOrigin, sound_for}
+use Rattle.fragment_open.specs.Settled.{IsQuiet}
+use Rattle.fragment_open.specs.Sound.{IsOrigin, sound_for, tells_file}
 use Rattle.fragment_open.specs.declared.head.Head.{Head}
 use Rattle.merkle_chunks.specs.HeaderBytes.{IsInRange}
 use Rattle.merkle_chunks.specs.declared.header.Header.{Header}
+use Rattle.skip_decode.specs.CheckedStream.{store_moment}
 use Rattle.skip_decode.specs.Positions.{Numbers, Position}
 use Rattle.skip_decode.specs.Spots.{IsSpot, stage_of}
+use Rattle.skip_decode.specs.StoreWent.{StoreMoment, StoreWent}
 use Rattle.skip_decode.specs.StreamEvents.{StandsAtEvent, events_from, numbers_of, stream_events}
 
 -- ---- what never changes
@@ -72,22 +75,28 @@ pub record IsFileSpot (k : FileFixed) (position : Position) : Type 0 where
 -- ---- moments
 
 -- A moment of a walk: what never changes, what its store tells of its good reads and of the bytes
--- that it holds, and the walk's refusal.
+-- that it holds, the store's count of faults, and the walk's refusal.
 pub record FileMoment : Type 0 where
   pub fixed : FileFixed
   pub served : Option (List StoreRead)
   pub held : Option (List ℕ)
+  pub faults : ℕ
   pub fault : Option ReadFault
 
 -- the moment of a walk whose opener has this head
-abbrev pub moment_of : Head → List (List ℕ) → Option (List StoreRead) → Option (List ℕ)
+abbrev pub moment_of : Head → List (List ℕ) → Option (List StoreRead) → Option (List ℕ) → ℕ
     → Option ReadFault → FileMoment
-moment_of head names served held fault = record {
+moment_of head names served held faults fault = record {
   fixed = record { header = head.header; top = head.top; key = head.key; names = names };
   served = served;
   held = held;
+  faults = faults;
   fault = fault;
 }
+
+-- what is seen of its store then
+abbrev pub store_of : FileMoment → StoreMoment
+store_of w = store_moment w.served w.held w.faults w.fault
 
 -- whether the walk is sound for a document: whether its opener is
 abbrev pub is_sound_at : FileMoment → Doc → Bool
@@ -99,8 +108,13 @@ pub record FileWent (w v : FileMoment) : Type 0 where
   pub same : v.fixed ≡ w.fixed
   -- It was sound for each document for which it is.
   pub was_sound : (d : Doc) → is_sound_at v d ≡ true → is_sound_at w d ≡ true
-  -- A refusal stays.
-  pub stays : (fault : ReadFault) → w.fault ≡ Some fault → v.fault ≡ Some fault
+  -- What its store shows: of its good reads, of its faults, and of the cause of a refusal that came
+  -- in between.
+  pub reads : StoreWent (store_of w) (store_of v)
   -- Where it refused with `BadIndex` in between, it is sound for no origin.
   pub bad_index : w.fault ≡ None → v.fault ≡ Some BadIndex
       → (d : Doc) → IsFileOrigin v.fixed d → is_sound_at v d ≡ false
+  -- Where the store tells that it holds the file of an origin, a refusal that came in between is the
+  -- store's own failure.
+  pub held : (d : Doc) → IsFileOrigin v.fixed d → tells_file v.held d v.fixed.key ≡ true
+      → w.fault ≡ None → IsQuiet v.fault

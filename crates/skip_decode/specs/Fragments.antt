@@ -1,7 +1,8 @@
 -- A stream that is read by its fragments of 256 bytes. What was read so far narrows which stream it
 -- may be. Defined by this project.
-use Rattle.std.specs.Prelude.{◌≡◌, ℕ, ◌*◌, ◌⊎◌, Option, None, Some, Result, Ok, Err, List, ◌∷◌, take, drop}
+use Rattle.std.specs.Prelude.{◌≡◌, ℕ, ◌*◌, ◌⊎◌, Option, None, Some, Result, Ok, Err, MatchResult, List, ◌∷◌, take, drop}
 use Rattle.acl_outside.specs.declared.read_fault.ReadFault.{ReadFault}
+use Rattle.acl_outside.specs.declared.read_fault.ReadFault.TheVariants.{BadIndex}
 
 -- the fragment of a stream at an index, counted from 0
 abbrev pub fragment_of : List ℕ → ℕ → List ℕ
@@ -23,6 +24,17 @@ FitsNone may_be = ForEach may_be (λ stream. ⊥)
 -- What led to the state before a call leads to the state after it.
 abbrev pub Leads : {F : Type 0} → (F → F → Type 0) → F → F → Type 0
 Leads {F} went before after = (past : F) → went past before → went past after
+
+-- After Ok the refusal that is repeated, if there is one, is as it was. After a refusal it is this one.
+abbrev pub Refuses : {T : Type 0} → Result T ReadFault → Option ReadFault → Option ReadFault → Type 0
+Refuses result before after =
+    MatchResult result (λ done. after ≡ before) (λ fault. after ≡ Some fault)
+
+-- The same, but a refusal may also be `BadIndex` where nothing is repeated that wasn't before.
+abbrev pub RefusesOrBad : {T : Type 0} → Result T ReadFault → Option ReadFault → Option ReadFault → Type 0
+RefusesOrBad result before after =
+    MatchResult result (λ done. after ≡ before)
+    (λ fault. (after ≡ Some fault) ⊎ ((fault ≡ BadIndex) × (after ≡ before)))
 
 -- The fragment at the index was opened, or none was.
 abbrev pub OpensOrNone : ℕ → List ℕ → List ℕ → Type 0

@@ -1,9 +1,14 @@
+pub mod Building
 pub mod CheckedStream
 pub mod ExactSets
 pub mod FileWalk
 pub mod Fragments
+pub mod OpensOf
 pub mod Positions
 pub mod Spots
+pub mod Starting
+pub mod StoreWent
+pub mod Straight
 pub mod StreamEvents
 pub mod StreamHeads
 pub mod StreamOf

@@ -1,5 +1,5 @@
 -- The events that a stream is read as, and where in this list a position stands. Defined by this project.
-use Rattle.std.specs.Prelude.{◌≡◌, ℕ, zero, suc, ◌+◌, ◌*◌, ◌-◌, ◌<◌, Option, None, Some, List, [], ◌∷◌, length}
+use Rattle.std.specs.Prelude.{◌≡◌, ℕ, zero, suc, ◌+◌, ◌*◌, ◌-◌, ◌<◌, Option, None, Some, List, [], ◌∷◌, ◌++◌, length}
 use Rattle.acl_model.specs.Dictionary.{dictionary, dictionary_section}
 use Rattle.acl_model.specs.Stream.{plain, tree_section, depth}
 use Rattle.acl_model.specs.declared.document.Doc.{Doc}
@@ -53,6 +53,10 @@ events_left k position = 4 * (tree_end k - position.place) + 2 * length position
 -- the events from a position on, End included
 abbrev pub events_from : Numbers → List ℕ → Position → List Event
 events_from k stream position = run k stream (events_left k position + 1) position
+
+-- The events of a stream, from its first position on, are these and then End.
+abbrev pub IsReadToEnd : Numbers → List ℕ → List Event → Type 0
+IsReadToEnd k stream events = events_from k stream (first_position k) ≡ events ++ (event.End ∷ [])
 
 -- ---- the events of a document
 

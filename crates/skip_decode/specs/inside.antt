@@ -3,6 +3,11 @@ pub mod FileWalkLaws
 pub mod LevelsInMemory
 pub mod MemoryLaws
 pub mod Moves
+pub mod OpensLaws
+pub mod Reading
 pub mod SmallStreams
+pub mod StartFaults
+pub mod StoreLaws
+pub mod StraightLaws
 pub mod TreeReading
 pub mod Windows

@@ -19,7 +19,7 @@ pub(crate) struct Checked<'a, S: Store> {
 
 impl<'a, S: Store> Fragments for Checked<'a, S> {
     ghost use Rattle.merkle_chunks.specs.HeaderBytes.{fragment_count};
-    ghost use Rattle.skip_decode.specs.CheckedStream.{MayBe, Fetched, opened_since};
+    ghost use Rattle.skip_decode.specs.CheckedStream.{MayBe, Fetched, opened_since, store_moment};
     ghost use Rattle.skip_decode.specs.inside.CheckedLaws.{few_of_header, whole_stream};
 
     ghost count = { λ w. fragment_count w.opener.head.header };
@@ -29,10 +29,14 @@ impl<'a, S: Store> Fragments for Checked<'a, S> {
 
     ghost opened = { λ w. opened_since (S.served w.opener.store.now) };
 
+    ghost refused = { λ w. w.opener.fault };
+
     ghost went = { λ w v. (v.opener.store.ghost_name ≡ w.opener.store.ghost_name)
         × Fetched w.opener.head v.opener.head
-        (S.served w.opener.store.now) (S.served v.opener.store.now)
-        (S.holds w.opener.store.now) (S.holds v.opener.store.now) };
+        (store_moment (S.served w.opener.store.now) (S.holds w.opener.store.now)
+        (S.faults w.opener.store.now) w.opener.fault)
+        (store_moment (S.served v.opener.store.now) (S.holds v.opener.store.now)
+        (S.faults v.opener.store.now) v.opener.fault) };
 
     fn fetch(&mut self, index: u32, into: &mut [u8; 256]) -> Result<(), ReadFault> {
         self.opener.fetch(index, into)

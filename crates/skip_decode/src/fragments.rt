@@ -1,7 +1,8 @@
 //! A stream that is read by its fragments.
 
 ghost use Rattle.std.specs.Prelude.{◌≡◌, ℕ, ◌*◌, ◌<◌, ◌≤◌, Option, List, length, IsErrOf, OnOk};
-ghost use Rattle.skip_decode.specs.Fragments.{FitsNone, ForEach, Leads, Narrows, OpensFragment, fragment_of};
+ghost use Rattle.acl_outside.specs.declared.read_fault.ReadFault.{ReadFault};
+ghost use Rattle.skip_decode.specs.Fragments.{FitsNone, ForEach, Leads, Narrows, OpensFragment, Refuses, fragment_of};
 
 use acl_outside::ReadFault;
 
@@ -16,6 +17,9 @@ pub trait Fragments: Drop {
     /// The indexes of the fragments opened so far, the newest first, where they are told.
     ghost opened: { Self → Option (List ℕ) };
 
+    /// The refusal that each fetch repeats, if there was one.
+    ghost refused: { Self → Option ReadFault };
+
     /// Only fetches led from the first state to the second.
     ghost went: { Self → Self → Type 0 };
 
@@ -23,6 +27,7 @@ pub trait Fragments: Drop {
     fn fetch(&mut self, index: u32, into: &mut [u8; 256]) -> Result<(), ReadFault>
         requires { index < count self.old }
         ensures same_count { count self.new ≡ count self.old }
+        ensures refuses { Refuses result (refused self.old) (refused self.new) }
         ensures narrows { Narrows (may_be self.old) (may_be self.new) }
         ensures went { Leads went self.old self.new }
         ensures index { IsErrOf result ReadFault.BadIndex → FitsNone (may_be self.new) }

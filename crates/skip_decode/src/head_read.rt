@@ -1,12 +1,12 @@
 //! Reads the head of an element from a window. No byte is read twice: the first one or two have the bit by which the
 //! head's size is known, and the others are read after them.
 
-ghost use Rattle.std.specs.Prelude.{◌≡◌, ◌+◌, ◌-◌, ◌*◌, ◌/◌, ◌≤◌, ◌++◌, length, take, drop, nat_eq, IsErrOf, IfOk, IfSome, OnOk};
+ghost use Rattle.std.specs.Prelude.{◌≡◌, ◌+◌, ◌-◌, ◌*◌, ◌/◌, ◌≤◌, ◌++◌, Some, length, take, drop, nat_eq, IsErrOf, IfOk, IfSome, OnOk};
 ghost use Rattle.std.specs.Option.{option_and_then};
 ghost use Rattle.acl_bits.specs.FilledBits.{number_of};
-ghost use Rattle.skip_decode.specs.Fragments.{ForEach, FitsNone, Leads, Narrows};
+ghost use Rattle.skip_decode.specs.Fragments.{ForEach, FitsNone, Leads, Narrows, Refuses};
 ghost use Rattle.skip_decode.specs.inside.Moves.{IsHeadIn};
-ghost use Rattle.skip_decode.specs.inside.Windows.{IsHeld};
+ghost use Rattle.skip_decode.specs.inside.Windows.{AfterReads, HasRead, HasReadSome, IsHeld};
 ghost use Rattle.skip_decode.specs.inside.TreeReading.{head_bytes};
 ghost use Rattle.skip_decode.specs.StreamHeads.{take_within, number_width, inner_bit, inner_at, whole_head, head_at};
 
@@ -77,11 +77,17 @@ fn fill<F: Fragments>(
     requires within { place + to ≤ 256 * F.count window.old.source }
     requires held { IsHeld (F.may_be window.old.source) window.old.held window.old.at }
     ensures same_count { F.count window.new.source ≡ F.count window.old.source }
+    ensures refuses { Refuses result (F.refused window.old.source) (F.refused window.new.source) }
     ensures held { IsHeld (F.may_be window.new.source) window.new.held window.new.at }
     ensures narrows { Narrows (F.may_be window.old.source) (F.may_be window.new.source) }
     ensures went { Leads F.went window.old.source window.new.source }
     ensures index { IsErrOf result ReadFault.BadIndex → FitsNone (F.may_be window.new.source) }
+    ensures opens { AfterReads (place + from) window.old.at (F.opened window.old.source) (λ first start.
+        OnOk result (HasRead first start (place + to) window.new.at (F.opened window.new.source))) }
+    ensures some { AfterReads (place + from) window.old.at (F.opened window.old.source) (λ first start.
+        HasReadSome first start (F.opened window.new.source)) }
     ensures long { length buffer.new ≡ length buffer.old }
+    ensures front { OnOk result (take from buffer.new ≡ take from buffer.old) }
     ensures bytes { OnOk result (ForEach (F.may_be window.new.source) (λ stream.
         take to buffer.new ≡ take from buffer.old ++ take (to - from) (drop (place + from) stream))) }
 {
@@ -102,12 +108,19 @@ fn read_inner<F: Fragments>(
     requires within { place + left ≤ 256 * F.count window.old.source }
     requires held { IsHeld (F.may_be window.old.source) window.old.held window.old.at }
     ensures same_count { F.count window.new.source ≡ F.count window.old.source }
+    ensures refuses { Refuses result (F.refused window.old.source) (F.refused window.new.source) }
     ensures held { IsHeld (F.may_be window.new.source) window.new.held window.new.at }
     ensures narrows { Narrows (F.may_be window.old.source) (F.may_be window.new.source) }
     ensures went { Leads F.went window.old.source window.new.source }
     ensures index { IsErrOf result ReadFault.BadIndex → FitsNone (F.may_be window.new.source) }
+    ensures opens { AfterReads place window.old.at (F.opened window.old.source) (λ first start.
+        IfOk result (λ found. IfSome found (λ x. HasRead first start (place + (9 + number) / 8) window.new.at (F.opened window.new.source)))) }
+    ensures some { AfterReads place window.old.at (F.opened window.old.source) (λ first start.
+        HasReadSome first start (F.opened window.new.source)) }
     ensures inner { IfOk result (λ inner. ForEach (F.may_be window.new.source) (λ stream.
         inner ≡ inner_at number left (drop place stream))) }
+    ensures bit { IfOk result (λ inner. IfSome inner (λ b.
+        inner_bit number (take ((9 + number) / 8) buffer.new) ≡ Some b)) }
     ensures front { IfOk result (λ inner. IfSome inner (λ bit.
         ForEach (F.may_be window.new.source) (λ stream.
         take ((9 + number) / 8) buffer.new ≡ take ((9 + number) / 8) (drop place stream)))) }
@@ -140,10 +153,18 @@ fn read_head_of<F: Fragments>(
         take front buffer.old ≡ take front (drop place stream)) }
     requires held { IsHeld (F.may_be window.old.source) window.old.held window.old.at }
     ensures same_count { F.count window.new.source ≡ F.count window.old.source }
+    ensures refuses { Refuses result (F.refused window.old.source) (F.refused window.new.source) }
     ensures held { IsHeld (F.may_be window.new.source) window.new.held window.new.at }
     ensures narrows { Narrows (F.may_be window.old.source) (F.may_be window.new.source) }
     ensures went { Leads F.went window.old.source window.new.source }
     ensures index { IsErrOf result ReadFault.BadIndex → FitsNone (F.may_be window.new.source) }
+    ensures opens { AfterReads (place + front) window.old.at (F.opened window.old.source) (λ first start.
+        IfOk result (λ found. IfSome found (λ x. HasRead first start (place + long) window.new.at (F.opened window.new.source)))) }
+    ensures some { AfterReads (place + front) window.old.at (F.opened window.old.source) (λ first start.
+        HasReadSome first start (F.opened window.new.source)) }
+    ensures front { OnOk result (take front buffer.new ≡ take front buffer.old) }
+    ensures whole { IfOk result (λ head. IfSome head (λ h.
+        whole_head members.now width (take long buffer.new) ≡ Some h)) }
     ensures head { IfOk result (λ head. ForEach (F.may_be window.new.source) (λ stream.
         head ≡ option_and_then (whole_head members.now width) (take_within left long (drop place stream)))) }
     ensures fits { IfOk result (λ head. IfSome head (IsHeadIn members.now)) }
@@ -170,10 +191,15 @@ pub(crate) fn read_head<F: Fragments>(
     requires within { end ≤ 256 * F.count window.old.source }
     requires held { IsHeld (F.may_be window.old.source) window.old.held window.old.at }
     ensures same_count { F.count window.new.source ≡ F.count window.old.source }
+    ensures refuses { Refuses result (F.refused window.old.source) (F.refused window.new.source) }
     ensures held { IsHeld (F.may_be window.new.source) window.new.held window.new.at }
     ensures narrows { Narrows (F.may_be window.old.source) (F.may_be window.new.source) }
     ensures went { Leads F.went window.old.source window.new.source }
     ensures index { IsErrOf result ReadFault.BadIndex → FitsNone (F.may_be window.new.source) }
+    ensures opens { AfterReads place window.old.at (F.opened window.old.source) (λ first start.
+        IfOk result (λ found. IfSome found (λ x. HasRead first start (place + x.bytes) window.new.at (F.opened window.new.source)))) }
+    ensures some { AfterReads place window.old.at (F.opened window.old.source) (λ first start.
+        HasReadSome first start (F.opened window.new.source)) }
     ensures head { IfOk result (λ head. ForEach (F.may_be window.new.source) (λ stream.
         head ≡ head_at members.now width (end - place) (drop place stream))) }
     ensures fits { IfOk result (λ head. IfSome head (IsHeadIn members.now)) }

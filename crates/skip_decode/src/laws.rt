@@ -1,21 +1,17 @@
-//! Two theorems: a document's tree section is read as that document, and a stream is that of at most one document.
+//! Two theorems: a stream is that of at most one document, and a list of events is that of at most one document.
 //! These functions do nothing: their contracts are the theorems.
 
-ghost use Rattle.std.specs.Prelude.{◌≡◌, ◌≤◌, ℕ, List, Some, true, length};
+ghost use Rattle.std.specs.Prelude.{◌≡◌, ◌≤◌, ℕ, List, Option, true, length};
 ghost use Rattle.acl_model.specs.declared.document.Doc.{Doc};
+ghost use Rattle.acl_model.specs.Limits.{most_names};
 ghost use Rattle.acl_model.specs.Document.{is_document};
 ghost use Rattle.acl_model.specs.Dictionary.{dictionary, dictionary_section};
-ghost use Rattle.acl_model.specs.Stream.{has_stream, plain, tree_section, depth};
+ghost use Rattle.acl_model.specs.Stream.{has_stream, plain, tree_section};
+ghost use Rattle.acl_walk.specs.Spelling.{Spells};
+ghost use Rattle.acl_walk.specs.declared.event.Event.{Event};
 ghost use Rattle.merkle_chunks.specs.declared.header.Header.{Header};
-ghost use Rattle.skip_decode.specs.inside.TreeReading.{read_tree};
+ghost use Rattle.skip_decode.specs.Building.{built};
 ghost use Rattle.skip_decode.specs.StreamOf.{IsStreamOf};
-
-/// The tree section of a document is read as that document, where the allowed depth is at least the document's.
-pub fn a_tree_is_read_again()
-    ensures { (d : Doc) (deep : ℕ)
-        → is_document d ≡ true → has_stream d ≡ true → depth d ≤ deep
-        → read_tree (dictionary d) deep (tree_section d) ≡ Some d }
-{}
 
 /// No two documents have the same stream and the same numbers. It is enough that the streams and the lengths of the two
 /// sections are the same.
@@ -27,4 +23,13 @@ pub fn a_stream_is_of_one_document()
         → length (dictionary_section (dictionary d)) ≡ length (dictionary_section (dictionary e))
         → length (tree_section d) ≡ length (tree_section e)
         → plain d ≡ plain e → d ≡ e }
+{}
+
+/// A list of events that spells a document, or none, builds that. So a list spells at most one document.
+pub fn events_build_their_document()
+    ensures built { (names : List (List ℕ)) (shown : Option Doc) (events : List Event)
+        → length names ≤ most_names → Spells names shown events → built names events ≡ shown }
+    ensures one { (names : List (List ℕ)) (shown other : Option Doc) (events : List Event)
+        → length names ≤ most_names → Spells names shown events → Spells names other events
+        → shown ≡ other }
 {}

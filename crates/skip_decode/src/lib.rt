@@ -2,11 +2,10 @@
 //! event by event, over the checked fragments of a store.
 #![tactic(auto)]
 
-mod attributes;
 mod begun;
+mod building;
 mod checked;
 mod decode;
-mod element;
 mod fragments;
 mod head;
 mod head_read;
@@ -15,23 +14,26 @@ mod levels;
 mod memory;
 mod pieces;
 mod position;
+mod reading;
 mod spot;
+mod start;
+mod start_fault;
 mod step;
 mod stepping;
 mod steps;
 mod stream_laws;
-mod take;
-mod tree;
 mod walk;
 mod window;
 
 pub use decode::decode_all;
 pub use fragments::Fragments;
-pub use laws::{a_stream_is_of_one_document, a_tree_is_read_again};
+pub use laws::{a_stream_is_of_one_document, events_build_their_document};
 pub use spot::SkipSpot;
+pub use start::SkipStart;
+pub use start_fault::StartFault;
 pub use stream_laws::{
     heads_have_one_spelling, positions_move_along_the_events, small_streams_are_read,
-    streams_spell_documents,
+    streams_have_one_spelling, streams_spell_documents, trees_have_one_spelling,
 };
 pub use walk::SkipWalk;
 

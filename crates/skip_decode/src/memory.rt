@@ -35,6 +35,8 @@ impl<'a> Fragments for Memory<'a> {
 
     ghost opened = { λ w. None };
 
+    ghost refused = { λ w. None };
+
     ghost went = { λ w v. v ≡ w };
 
     fn fetch(&mut self, index: u32, into: &mut [u8; 256]) -> Result<(), ReadFault> {

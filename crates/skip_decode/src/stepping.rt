@@ -1,12 +1,12 @@
 //! The next step of a walk, by what comes next at its spot.
 
 ghost use Rattle.std.specs.Prelude.{◌≡◌, ◌<◌, ◌≤◌, ◌*◌, ◌^◌, None, Some, All, IsErrOf, IfOk, IfSome};
-ghost use Rattle.skip_decode.specs.Fragments.{FitsNone, ForEach, Leads, Narrows};
+ghost use Rattle.skip_decode.specs.Fragments.{FitsNone, ForEach, Leads, Narrows, Refuses, RefusesOrBad};
 ghost use Rattle.skip_decode.specs.Positions.{tree_end};
 ghost use Rattle.skip_decode.specs.Spots.{FitsInside, FitsOutside, IsSpot};
 ghost use Rattle.skip_decode.specs.StreamSteps.{end_step, step_at, step_inside, step_outside};
 ghost use Rattle.skip_decode.specs.inside.Moves.{IsMove, MoveInside, MoveOutside};
-ghost use Rattle.skip_decode.specs.inside.Windows.{IsHeld};
+ghost use Rattle.skip_decode.specs.inside.Windows.{AfterReads, HasRead, HasReadSome, IsHeld};
 
 use crate::fragments::Fragments;
 use crate::position::{Level, Next, Numbers};
@@ -43,10 +43,16 @@ fn step_outside<F: Fragments>(
     requires within { tree_end numbers.now ≤ 256 * F.count window.old.source }
     requires held { IsHeld (F.may_be window.old.source) window.old.held window.old.at }
     ensures same_count { F.count window.new.source ≡ F.count window.old.source }
+    ensures refuses { Refuses result (F.refused window.old.source) (F.refused window.new.source) }
     ensures held { IsHeld (F.may_be window.new.source) window.new.held window.new.at }
     ensures narrows { Narrows (F.may_be window.old.source) (F.may_be window.new.source) }
     ensures went { Leads F.went window.old.source window.new.source }
     ensures index { IsErrOf result ReadFault.BadIndex → FitsNone (F.may_be window.new.source) }
+    ensures opens { AfterReads place window.old.at (F.opened window.old.source) (λ first start.
+        IfOk result (λ step. IfSome step (λ s.
+        HasRead first start s.place window.new.at (F.opened window.new.source)))) }
+    ensures some { AfterReads place window.old.at (F.opened window.old.source) (λ first start.
+        HasReadSome first start (F.opened window.new.source)) }
     ensures step { IfOk result (λ step. ForEach (F.may_be window.new.source) (λ stream.
         step ≡ step_outside numbers.now stream next place)) }
     ensures moves { IfOk result (λ step. IfSome step (λ s.
@@ -79,10 +85,16 @@ fn step_inside<F: Fragments>(
     requires within { level.now.end ≤ 256 * F.count window.old.source }
     requires held { IsHeld (F.may_be window.old.source) window.old.held window.old.at }
     ensures same_count { F.count window.new.source ≡ F.count window.old.source }
+    ensures refuses { Refuses result (F.refused window.old.source) (F.refused window.new.source) }
     ensures held { IsHeld (F.may_be window.new.source) window.new.held window.new.at }
     ensures narrows { Narrows (F.may_be window.old.source) (F.may_be window.new.source) }
     ensures went { Leads F.went window.old.source window.new.source }
     ensures index { IsErrOf result ReadFault.BadIndex → FitsNone (F.may_be window.new.source) }
+    ensures opens { AfterReads place window.old.at (F.opened window.old.source) (λ first start.
+        IfOk result (λ step. IfSome step (λ s.
+        HasRead first start s.place window.new.at (F.opened window.new.source)))) }
+    ensures some { AfterReads place window.old.at (F.opened window.old.source) (λ first start.
+        HasReadSome first start (F.opened window.new.source)) }
     ensures step { IfOk result (λ step. ForEach (F.may_be window.new.source) (λ stream.
         step ≡ step_inside numbers.now stream around level.now next place)) }
     ensures moves { IfOk result (λ step. IfSome step (λ s.
@@ -111,10 +123,16 @@ pub(crate) fn next_step<F: Fragments>(
     requires within { tree_end numbers.now ≤ 256 * F.count window.old.source }
     requires held { IsHeld (F.may_be window.old.source) window.old.held window.old.at }
     ensures same_count { F.count window.new.source ≡ F.count window.old.source }
+    ensures refuses { Refuses result (F.refused window.old.source) (F.refused window.new.source) }
     ensures held { IsHeld (F.may_be window.new.source) window.new.held window.new.at }
     ensures narrows { Narrows (F.may_be window.old.source) (F.may_be window.new.source) }
     ensures went { Leads F.went window.old.source window.new.source }
     ensures index { IsErrOf result ReadFault.BadIndex → FitsNone (F.may_be window.new.source) }
+    ensures opens { AfterReads spot.now.place window.old.at (F.opened window.old.source) (λ first start.
+        IfOk result (λ step. IfSome step (λ s.
+        HasRead first start s.place window.new.at (F.opened window.new.source)))) }
+    ensures some { AfterReads spot.now.place window.old.at (F.opened window.old.source) (λ first start.
+        HasReadSome first start (F.opened window.new.source)) }
     ensures step { IfOk result (λ step. ForEach (F.may_be window.new.source) (λ stream.
         step ≡ step_at numbers.now stream spot.now)) }
     ensures moves { IfOk result (λ step. IfSome step (IsMove numbers.now spot.now)) }
@@ -143,11 +161,16 @@ pub(crate) fn checked_step<F: Fragments>(
     requires within { tree_end numbers.now ≤ 256 * F.count window.old.source }
     requires held { IsHeld (F.may_be window.old.source) window.old.held window.old.at }
     ensures same_count { F.count window.new.source ≡ F.count window.old.source }
+    ensures refuses { RefusesOrBad result (F.refused window.old.source) (F.refused window.new.source) }
     ensures held { IsHeld (F.may_be window.new.source) window.new.held window.new.at }
     ensures went { Leads F.went window.old.source window.new.source }
     ensures index { IsErrOf result ReadFault.BadIndex
         → ForEach (F.may_be window.new.source) (λ stream.
         step_at numbers.now stream spot.now ≡ None) }
+    ensures opens { AfterReads spot.now.place window.old.at (F.opened window.old.source) (λ first start.
+        IfOk result (λ step. HasRead first start step.place window.new.at (F.opened window.new.source))) }
+    ensures some { AfterReads spot.now.place window.old.at (F.opened window.old.source) (λ first start.
+        HasReadSome first start (F.opened window.new.source)) }
     ensures step { IfOk result (λ step. ForEach (F.may_be window.new.source) (λ stream.
         step_at numbers.now stream spot.now ≡ Some step)) }
     ensures moves { IfOk result (IsMove numbers.now spot.now) }

@@ -1,11 +1,11 @@
 //! The steps of a reader along a stream. None means that the bytes there are of no document's stream.
 
 ghost use Rattle.std.specs.Prelude.{◌≡◌, ◌+◌, ◌*◌, ◌^◌, ◌<◌, ◌≤◌, [], ◌∷◌, IsErrOf, IfOk, IfSome};
-ghost use Rattle.skip_decode.specs.Fragments.{ForEach, FitsNone, Leads, Narrows};
+ghost use Rattle.skip_decode.specs.Fragments.{ForEach, FitsNone, Leads, Narrows, Refuses};
 ghost use Rattle.skip_decode.specs.Positions.{above_root, tree_end};
 ghost use Rattle.skip_decode.specs.inside.Moves.{AttributeMoves, BeginMove, BeginMoves, HeadMove, ItemMoves, TextMove, TextMoves};
 ghost use Rattle.skip_decode.specs.StreamSteps.{after_piece, next_in_text, next_in_attribute, text_step, text_begun, attribute_step, attributes_step, count_step, element_begun, finish_step, checked_finish, item_by, item_step, is_only, root_step};
-ghost use Rattle.skip_decode.specs.inside.Windows.{IsHeld};
+ghost use Rattle.skip_decode.specs.inside.Windows.{AfterReads, HasRead, HasReadSome, IsHeld};
 
 use crate::begun::{above_root, begun_with};
 use crate::fragments::Fragments;
@@ -64,10 +64,16 @@ pub(crate) fn text_step<F: Fragments>(
     requires within { place + left ≤ 256 * F.count window.old.source }
     requires held { IsHeld (F.may_be window.old.source) window.old.held window.old.at }
     ensures same_count { F.count window.new.source ≡ F.count window.old.source }
+    ensures refuses { Refuses result (F.refused window.old.source) (F.refused window.new.source) }
     ensures held { IsHeld (F.may_be window.new.source) window.new.held window.new.at }
     ensures narrows { Narrows (F.may_be window.old.source) (F.may_be window.new.source) }
     ensures went { Leads F.went window.old.source window.new.source }
     ensures index { IsErrOf result ReadFault.BadIndex → FitsNone (F.may_be window.new.source) }
+    ensures opens { AfterReads place window.old.at (F.opened window.old.source) (λ first start.
+        IfOk result (λ step. IfSome step (λ s.
+        HasRead first start s.place window.new.at (F.opened window.new.source)))) }
+    ensures some { AfterReads place window.old.at (F.opened window.old.source) (λ first start.
+        HasReadSome first start (F.opened window.new.source)) }
     ensures step { IfOk result (λ step. ForEach (F.may_be window.new.source) (λ stream.
         step ≡ text_step stream place left)) }
     ensures moves { IfOk result (λ step. IfSome step (TextMoves place left)) }
@@ -95,10 +101,17 @@ pub(crate) fn text_begun<F: Fragments>(
     requires within { end ≤ 256 * F.count window.old.source }
     requires held { IsHeld (F.may_be window.old.source) window.old.held window.old.at }
     ensures same_count { F.count window.new.source ≡ F.count window.old.source }
+    ensures refuses { Refuses result (F.refused window.old.source) (F.refused window.new.source) }
     ensures held { IsHeld (F.may_be window.new.source) window.new.held window.new.at }
     ensures narrows { Narrows (F.may_be window.old.source) (F.may_be window.new.source) }
     ensures went { Leads F.went window.old.source window.new.source }
     ensures index { IsErrOf result ReadFault.BadIndex → FitsNone (F.may_be window.new.source) }
+    ensures opens { AfterReads place window.old.at (F.opened window.old.source) (λ first start.
+        IfOk result (λ step. IfSome step (λ s.
+        HasRead first start s.place window.new.at (F.opened window.new.source)))) }
+    ensures some { AfterReads place window.old.at (F.opened window.old.source) (λ first start.
+        HasReadSome first start (F.opened window.new.source)) }
+    ensures rises { IfOk result (λ step. IfSome step (λ s. place < s.place)) }
     ensures step { IfOk result (λ step. ForEach (F.may_be window.new.source) (λ stream.
         step ≡ text_begun stream place end)) }
     ensures moves { IfOk result (λ step. IfSome step (TextMove end place)) }
@@ -121,10 +134,16 @@ pub(crate) fn attribute_step<F: Fragments>(
     requires within { place + left ≤ 256 * F.count window.old.source }
     requires held { IsHeld (F.may_be window.old.source) window.old.held window.old.at }
     ensures same_count { F.count window.new.source ≡ F.count window.old.source }
+    ensures refuses { Refuses result (F.refused window.old.source) (F.refused window.new.source) }
     ensures held { IsHeld (F.may_be window.new.source) window.new.held window.new.at }
     ensures narrows { Narrows (F.may_be window.old.source) (F.may_be window.new.source) }
     ensures went { Leads F.went window.old.source window.new.source }
     ensures index { IsErrOf result ReadFault.BadIndex → FitsNone (F.may_be window.new.source) }
+    ensures opens { AfterReads place window.old.at (F.opened window.old.source) (λ first start.
+        IfOk result (λ step. IfSome step (λ s.
+        HasRead first start s.place window.new.at (F.opened window.new.source)))) }
+    ensures some { AfterReads place window.old.at (F.opened window.old.source) (λ first start.
+        HasReadSome first start (F.opened window.new.source)) }
     ensures step { IfOk result (λ step. ForEach (F.may_be window.new.source) (λ stream.
         step ≡ attribute_step stream more place left)) }
     ensures moves { IfOk result (λ step. IfSome step (AttributeMoves place left)) }
@@ -153,10 +172,16 @@ pub(crate) fn attributes_step<F: Fragments>(
     requires within { end ≤ 256 * F.count window.old.source }
     requires held { IsHeld (F.may_be window.old.source) window.old.held window.old.at }
     ensures same_count { F.count window.new.source ≡ F.count window.old.source }
+    ensures refuses { Refuses result (F.refused window.old.source) (F.refused window.new.source) }
     ensures held { IsHeld (F.may_be window.new.source) window.new.held window.new.at }
     ensures narrows { Narrows (F.may_be window.old.source) (F.may_be window.new.source) }
     ensures went { Leads F.went window.old.source window.new.source }
     ensures index { IsErrOf result ReadFault.BadIndex → FitsNone (F.may_be window.new.source) }
+    ensures opens { AfterReads place window.old.at (F.opened window.old.source) (λ first start.
+        IfOk result (λ step. IfSome step (λ s.
+        HasRead first start s.place window.new.at (F.opened window.new.source)))) }
+    ensures some { AfterReads place window.old.at (F.opened window.old.source) (λ first start.
+        HasReadSome first start (F.opened window.new.source)) }
     ensures step { IfOk result (λ step. ForEach (F.may_be window.new.source) (λ stream.
         step ≡ attributes_step stream place end count)) }
     ensures moves { IfOk result (λ step. IfSome step (HeadMove end place)) }
@@ -187,10 +212,16 @@ pub(crate) fn count_step<F: Fragments>(
     requires within { end ≤ 256 * F.count window.old.source }
     requires held { IsHeld (F.may_be window.old.source) window.old.held window.old.at }
     ensures same_count { F.count window.new.source ≡ F.count window.old.source }
+    ensures refuses { Refuses result (F.refused window.old.source) (F.refused window.new.source) }
     ensures held { IsHeld (F.may_be window.new.source) window.new.held window.new.at }
     ensures narrows { Narrows (F.may_be window.old.source) (F.may_be window.new.source) }
     ensures went { Leads F.went window.old.source window.new.source }
     ensures index { IsErrOf result ReadFault.BadIndex → FitsNone (F.may_be window.new.source) }
+    ensures opens { AfterReads place window.old.at (F.opened window.old.source) (λ first start.
+        IfOk result (λ step. IfSome step (λ s.
+        HasRead first start s.place window.new.at (F.opened window.new.source)))) }
+    ensures some { AfterReads place window.old.at (F.opened window.old.source) (λ first start.
+        HasReadSome first start (F.opened window.new.source)) }
     ensures step { IfOk result (λ step. ForEach (F.may_be window.new.source) (λ stream.
         step ≡ count_step stream place end)) }
     ensures moves { IfOk result (λ step. IfSome step (HeadMove end place)) }
@@ -216,10 +247,17 @@ pub(crate) fn element_begun<F: Fragments>(
     requires within { parent.now.end ≤ 256 * F.count window.old.source }
     requires held { IsHeld (F.may_be window.old.source) window.old.held window.old.at }
     ensures same_count { F.count window.new.source ≡ F.count window.old.source }
+    ensures refuses { Refuses result (F.refused window.old.source) (F.refused window.new.source) }
     ensures held { IsHeld (F.may_be window.new.source) window.new.held window.new.at }
     ensures narrows { Narrows (F.may_be window.old.source) (F.may_be window.new.source) }
     ensures went { Leads F.went window.old.source window.new.source }
     ensures index { IsErrOf result ReadFault.BadIndex → FitsNone (F.may_be window.new.source) }
+    ensures opens { AfterReads place window.old.at (F.opened window.old.source) (λ first start.
+        IfOk result (λ step. IfSome step (λ s.
+        HasRead first start s.place window.new.at (F.opened window.new.source)))) }
+    ensures some { AfterReads place window.old.at (F.opened window.old.source) (λ first start.
+        HasReadSome first start (F.opened window.new.source)) }
+    ensures rises { IfOk result (λ step. IfSome step (λ s. place < s.place)) }
     ensures step { IfOk result (λ step. ForEach (F.may_be window.new.source) (λ stream.
         step ≡ element_begun depth stream around parent.now place)) }
     ensures moves { IfOk result (λ step. IfSome step (BeginMoves depth around parent.now place)) }
@@ -267,10 +305,17 @@ fn item_by<F: Fragments>(
     requires within { level.now.end ≤ 256 * F.count window.old.source }
     requires held { IsHeld (F.may_be window.old.source) window.old.held window.old.at }
     ensures same_count { F.count window.new.source ≡ F.count window.old.source }
+    ensures refuses { Refuses result (F.refused window.old.source) (F.refused window.new.source) }
     ensures held { IsHeld (F.may_be window.new.source) window.new.held window.new.at }
     ensures narrows { Narrows (F.may_be window.old.source) (F.may_be window.new.source) }
     ensures went { Leads F.went window.old.source window.new.source }
     ensures index { IsErrOf result ReadFault.BadIndex → FitsNone (F.may_be window.new.source) }
+    ensures opens { AfterReads place window.old.at (F.opened window.old.source) (λ first start.
+        IfOk result (λ step. IfSome step (λ s.
+        HasRead first start s.place window.new.at (F.opened window.new.source)))) }
+    ensures some { AfterReads place window.old.at (F.opened window.old.source) (λ first start.
+        HasReadSome first start (F.opened window.new.source)) }
+    ensures rises { IfOk result (λ step. IfSome step (λ s. place < s.place)) }
     ensures step { IfOk result (λ step. ForEach (F.may_be window.new.source) (λ stream.
         step ≡ item_by depth stream around level.now place (first ∷ []))) }
     ensures moves { IfOk result (λ step. IfSome step (ItemMoves depth around level.now place)) }
@@ -296,10 +341,16 @@ pub(crate) fn item_step<F: Fragments>(
     requires within { level.now.end ≤ 256 * F.count window.old.source }
     requires held { IsHeld (F.may_be window.old.source) window.old.held window.old.at }
     ensures same_count { F.count window.new.source ≡ F.count window.old.source }
+    ensures refuses { Refuses result (F.refused window.old.source) (F.refused window.new.source) }
     ensures held { IsHeld (F.may_be window.new.source) window.new.held window.new.at }
     ensures narrows { Narrows (F.may_be window.old.source) (F.may_be window.new.source) }
     ensures went { Leads F.went window.old.source window.new.source }
     ensures index { IsErrOf result ReadFault.BadIndex → FitsNone (F.may_be window.new.source) }
+    ensures opens { AfterReads place window.old.at (F.opened window.old.source) (λ first start.
+        IfOk result (λ step. IfSome step (λ s.
+        HasRead first start s.place window.new.at (F.opened window.new.source)))) }
+    ensures some { AfterReads place window.old.at (F.opened window.old.source) (λ first start.
+        HasReadSome first start (F.opened window.new.source)) }
     ensures step { IfOk result (λ step. ForEach (F.may_be window.new.source) (λ stream.
         step ≡ item_step depth stream around level.now place)) }
     ensures moves { IfOk result (λ step. IfSome step (ItemMoves depth around level.now place)) }
@@ -336,10 +387,16 @@ pub(crate) fn root_step<F: Fragments>(
     requires within { tree_end numbers.now ≤ 256 * F.count window.old.source }
     requires held { IsHeld (F.may_be window.old.source) window.old.held window.old.at }
     ensures same_count { F.count window.new.source ≡ F.count window.old.source }
+    ensures refuses { Refuses result (F.refused window.old.source) (F.refused window.new.source) }
     ensures held { IsHeld (F.may_be window.new.source) window.new.held window.new.at }
     ensures narrows { Narrows (F.may_be window.old.source) (F.may_be window.new.source) }
     ensures went { Leads F.went window.old.source window.new.source }
     ensures index { IsErrOf result ReadFault.BadIndex → FitsNone (F.may_be window.new.source) }
+    ensures opens { AfterReads place window.old.at (F.opened window.old.source) (λ first start.
+        IfOk result (λ step. IfSome step (λ s.
+        HasRead first start s.place window.new.at (F.opened window.new.source)))) }
+    ensures some { AfterReads place window.old.at (F.opened window.old.source) (λ first start.
+        HasReadSome first start (F.opened window.new.source)) }
     ensures step { IfOk result (λ step. ForEach (F.may_be window.new.source) (λ stream.
         step ≡ root_step numbers.now stream place)) }
     ensures moves { IfOk result (λ step. IfSome step (λ s.

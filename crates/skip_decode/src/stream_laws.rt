@@ -1,26 +1,38 @@
 //! Laws on the events that a document's stream is read as. These functions do nothing: their
 //! contracts are the laws.
 
-ghost use Rattle.std.specs.Prelude.{◌≡◌, ℕ, ◌^◌, ◌<◌, ◌≤◌, true, Some, is_some, List, length};
-ghost use Rattle.std.specs.Prelude.{take, drop, All};
+ghost use Rattle.std.specs.Prelude.{◌≡◌, ℕ, ◌+◌, ◌^◌, ◌<◌, ◌≤◌, true, Some, is_some, List, [], ◌∷◌};
+ghost use Rattle.std.specs.Prelude.{◌++◌, length, take, drop, All};
+ghost use Rattle.std.specs.List.{list_all};
 ghost use Rattle.acl_bits.specs.Row.{IsRow, is_member};
-ghost use Rattle.acl_model.specs.Dictionary.{dictionary};
-ghost use Rattle.acl_model.specs.Document.{is_document};
-ghost use Rattle.acl_model.specs.Stream.{has_stream, head_bits, plain};
+ghost use Rattle.acl_model.specs.Dictionary.{dictionary, dictionary_section, is_dictionary};
+ghost use Rattle.acl_model.specs.Document.{is_document, height};
+ghost use Rattle.acl_model.specs.Limits.{most_stream_bytes};
+ghost use Rattle.acl_model.specs.Names.{is_name};
+ghost use Rattle.acl_model.specs.Stream.{has_stream, head_bits, plain, bytes_of_segments};
+ghost use Rattle.acl_model.specs.Stream.{filled_fragments, depth};
 ghost use Rattle.acl_model.specs.StreamBits.{bytes_of};
 ghost use Rattle.acl_model.specs.declared.document.Doc.{Doc};
+ghost use Rattle.acl_model.specs.declared.document.Element.{Element};
 ghost use Rattle.acl_model.specs.inside.StreamExamples.{one_text, one_child, two_children};
 ghost use Rattle.acl_walk.specs.SpotMoves.{place_after, StandsAt, PassesTo};
-ghost use Rattle.acl_walk.specs.Spelling.{Spells};
+ghost use Rattle.acl_walk.specs.Listed.{AreNames};
+ghost use Rattle.acl_walk.specs.Spelling.{Spells, SpellsElement};
+ghost use Rattle.acl_walk.specs.declared.event.Event.{Event};
+ghost use Rattle.acl_walk.specs.declared.event.Event.TheVariants.{End};
+ghost use Rattle.merkle_chunks.specs.declared.header.Header.{Header};
 ghost use Rattle.skip_decode.specs.ExactSets.{HaveExactSets};
-ghost use Rattle.skip_decode.specs.Positions.{Position, first_position, tags_of, passed};
+ghost use Rattle.skip_decode.specs.FileWalk.{numbers_in};
+ghost use Rattle.skip_decode.specs.Positions.{Numbers, Position, first_position, tags_of, passed};
 ghost use Rattle.skip_decode.specs.StreamEvents.{numbers_of, stream_events, events_from};
-ghost use Rattle.skip_decode.specs.StreamEvents.{StandsAtEvent};
+ghost use Rattle.skip_decode.specs.StreamEvents.{StandsAtEvent, IsReadToEnd};
 ghost use Rattle.skip_decode.specs.StreamHeads.{head_at};
+ghost use Rattle.skip_decode.specs.StreamOf.{IsStreamOf};
 ghost use Rattle.skip_decode.specs.StreamSteps.{Step, step_at, position_after};
 ghost use Rattle.skip_decode.specs.inside.SmallStreams.{one_text_events, one_child_events};
 ghost use Rattle.skip_decode.specs.inside.SmallStreams.{two_children_events};
 ghost use Rattle.skip_decode.specs.declared.head.Head.{Head};
+ghost use Rattle.skip_encode.specs.PlainStream.{tree_under};
 
 /// The events that a document's stream is read as spell the document, and the set of each Begin is
 /// exact.
@@ -77,6 +89,35 @@ pub fn heads_have_one_spelling()
         → IsRow members → All (λ b. b < 256) bytes
         → head_at members w left bytes ≡ Some head
         → IsRow head.below × All (λ n. is_member members n ≡ true) head.below }
+{}
+
+/// A stream that is read to its end has, after the dictionary section, the bytes that the encoder
+/// writes for a tree. The events spell this tree, and it is no higher than the header's depth.
+pub fn trees_have_one_spelling()
+    ensures spelled { (k : Numbers) (names : List (List ℕ)) (stream : List ℕ) (events : List Event)
+        → AreNames names → list_all is_name names ≡ true → length names ≡ k.names
+        → All (λ b. b < 256) stream → k.dictionary + k.tree ≤ length stream
+        → k.tree ≤ most_stream_bytes → IsReadToEnd k stream events
+        → (root : Element) × SpellsElement names root events
+        × (bytes_of_segments (tree_under names root) ≡ take k.tree (drop k.dictionary stream))
+        × (height root ≤ k.depth) }
+{}
+
+/// Let a stream consist of the section of a dictionary, a tree that is read to its end, and the
+/// fill. Then its events spell a document. If this document is valid and has the dictionary and the
+/// header's depth, the stream is the document's.
+pub fn streams_have_one_spelling()
+    ensures spelled { (header : Header) (names : List (List ℕ)) (stream : List ℕ)
+        (events : List Event)
+        → is_dictionary names ≡ true → length names ≡ header.tags → All (λ b. b < 256) stream
+        → header.dictionary + header.tree ≤ length stream
+        → header.dictionary + header.tree ≤ most_stream_bytes
+        → take header.dictionary stream ≡ dictionary_section names
+        → stream ≡ filled_fragments (take (header.dictionary + header.tree) stream)
+        → IsReadToEnd (numbers_in header) stream events
+        → (d : Doc) × Spells names (Some d) (events ++ (End ∷ []))
+        × (is_document d ≡ true → dictionary d ≡ names → depth d ≡ header.depth
+        → IsStreamOf d stream header) }
 {}
 
 /// The events of three small documents, worked out by hand.

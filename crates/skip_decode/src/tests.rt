@@ -43,8 +43,8 @@ fn inside(alloc: Global, doc: &Doc) -> Result<Vec<u8>, AllocError> {
 
 #[test]
 fn documents_are_read_from_their_streams(rt: HostRuntime) -> Result<(), Fail> {
-    a_tree_is_read_again();
     a_stream_is_of_one_document();
+    events_build_their_document();
     let rows: [(&str, &[u8], &[u8], u16, u16, &[u8]); 4] = [
         (
             "a text",

@@ -1,16 +1,20 @@
 //! The walk over a file in a store that nobody trusts. Each fragment is checked before it is read,
 //! and bytes that are of no document's stream are refused.
 
-ghost use Rattle.std.specs.Prelude.{◌≡◌, None, length};
+ghost use Rattle.std.specs.Prelude.{◌≡◌, None, IfOk, length};
 ghost use Rattle.acl_walk.specs.Listed.{AreNames};
 ghost use Rattle.merkle_chunks.specs.HeaderBytes.{IsInRange};
-ghost use Rattle.skip_decode.specs.CheckedStream.{MayBe};
+ghost use Rattle.skip_decode.specs.CheckedStream.{Fetched, IsQuietWith, IsQuietWith-prop, MayBe, opened_since, store_moment};
 ghost use Rattle.skip_decode.specs.FileWalk.{numbers_in};
-ghost use Rattle.skip_decode.specs.inside.Windows.{IsHeld, IsHeld-prop};
+ghost use Rattle.skip_decode.specs.Starting.{AreNamesOfOrigins, OpenedFirst, fragments_of};
+ghost use Rattle.skip_decode.specs.StoreWent.{AreGood};
+ghost use Rattle.skip_decode.specs.inside.Windows.{IsHeld, IsHeld-prop, IsNewest, IsNewestUnless, IsNewestUnless-prop};
 
 use crate::checked::Checked;
 use crate::position::Numbers;
 use crate::spot::SkipSpot;
+use crate::start::SkipStart;
+use crate::start_fault::StartFault;
 use crate::stepping::checked_step;
 use crate::window::Window;
 use acl_outside::{NoMemory, ReadFault, Store};
@@ -46,38 +50,94 @@ pub struct SkipWalk<'a, S: Store> {
     ghost held: { IsHeld (MayBe (S.served window.source.opener.store.now)
         (S.holds window.source.opener.store.now) window.source.opener.head) window.held window.at } by { IsHeld-prop (MayBe (S.served window.source.opener.store.now)
             (S.holds window.source.opener.store.now) window.source.opener.head) window.held window.at },
+    ghost newest: { IsNewestUnless fault window.at (opened_since (S.served window.source.opener.store.now)) } by { IsNewestUnless-prop fault window.at
+        (opened_since (S.served window.source.opener.store.now)) },
     ghost counted: { length names ≡ window.source.opener.head.header.tags },
     ghost named: { AreNames names },
+    ghost quiet: { IsQuietWith fault window.source.opener.fault } by { IsQuietWith-prop fault window.source.opener.fault },
     ghost read_by: { numbers ≡ numbers_in window.source.opener.head.header },
 }
 
 impl<'a, S: Store> SkipWalk<'a, S> {
-    /// A walk over the file of an opener that has refused nothing, whose dictionary section has
-    /// these names.
-    pub fn over(opener: Opener<'a, S>, names: Dictionary) -> SkipWalk<'a, S>
-        requires quiet { opener.fault ≡ None }
+    /// A walk that goes on from a start that has refused nothing and holds the fragment that was opened last, over a
+    /// file whose dictionary section has these names.
+    pub fn over(start: SkipStart<'a, S>, names: Dictionary) -> SkipWalk<'a, S>
+        requires quiet { start.window.source.opener.fault ≡ None }
+        requires newest { IsNewest start.window.at (opened_since (S.served start.window.source.opener.store.now)) }
         requires named { AreNames names }
-        requires counted { length names ≡ opener.head.header.tags }
-        ensures opener { result.window.source.opener ≡ opener.entry }
+        requires counted { length names ≡ start.window.source.opener.head.header.tags }
+        ensures opener { result.window.source.opener ≡ start.entry.window.source.opener }
+        ensures at { result.window.at ≡ start.entry.window.at }
         ensures names { result.names ≡ names }
         ensures fault { result.fault ≡ None }
         ensures taken { result.taken ≡ 0 }
     {
-        let numbers = numbers_in(opener.header());
+        let numbers = numbers_in(start.window.source.opener.header());
         SkipWalk {
-            window: Window::over(Checked { opener }),
+            window: start.window,
             names,
             numbers,
             fault: None,
             taken: 0,
         }
     }
+
+    /// Reads the names of the file of an opener that has refused nothing, and makes a walk over it. The
+    /// contract says little about refusals. Where their causes or the store's count of faults matter,
+    /// call [`SkipStart::over`], [`SkipStart::read_names`] and [`SkipWalk::over`] instead.
+    pub fn start(alloc: Global, opener: Opener<'a, S>) -> Result<SkipWalk<'a, S>, StartFault>
+        requires quiet { opener.fault ≡ None }
+        ensures same_store { IfOk result (λ walk. walk.window.source.opener.store.ghost_name
+            ≡ opener.entry.store.ghost_name) }
+        ensures went { IfOk result (λ walk.
+            Fetched opener.entry.head walk.window.source.opener.head
+            (store_moment (S.served opener.entry.store.now) (S.holds opener.entry.store.now)
+            (S.faults opener.entry.store.now) opener.entry.fault)
+            (store_moment (S.served walk.window.source.opener.store.now)
+            (S.holds walk.window.source.opener.store.now)
+            (S.faults walk.window.source.opener.store.now) walk.window.source.opener.fault)) }
+        ensures good { IfOk result (λ walk.
+            AreGood (store_moment (S.served walk.window.source.opener.store.now)
+            (S.holds walk.window.source.opener.store.now)
+            (S.faults walk.window.source.opener.store.now) walk.window.source.opener.fault)) }
+        ensures opens { IfOk result (λ walk.
+            OpenedFirst (fragments_of opener.entry.head.header.dictionary)
+            (opened_since (S.served opener.entry.store.now))
+            (opened_since (S.served walk.window.source.opener.store.now))) }
+        ensures newest { IfOk result (λ walk. IsNewest walk.window.at
+            (opened_since (S.served walk.window.source.opener.store.now))) }
+        ensures names { IfOk result (λ walk. AreNamesOfOrigins walk.window.source.opener.head
+            (S.served walk.window.source.opener.store.now)
+            (S.holds walk.window.source.opener.store.now) walk.names) }
+        ensures fault { IfOk result (λ walk. walk.fault ≡ None) }
+        ensures taken { IfOk result (λ walk. walk.taken ≡ 0) }
+    {
+        let mut start = SkipStart::over(opener);
+        let names = start.read_names(alloc)?;
+        Ok(SkipWalk::over(start, names))
+    }
+
+    /// The names of the dictionary. A tag is the number of a name.
+    pub fn names(&self) -> &Dictionary
+        ensures { result.now ≡ self.now.names }
+    {
+        &self.names
+    }
+
+    /// The byte offset in the stream of the next byte that is needed at a spot.
+    pub fn place(&self, spot: &SkipSpot) -> u64
+        ensures { result ≡ spot.now.place }
+    {
+        u64::from(spot.place())
+    }
 }
 
 impl<'a, S: Store> Walk for SkipWalk<'a, S> {
     ghost use Rattle.std.specs.Prelude.{◌≡◌, Some};
     ghost use Rattle.skip_decode.specs.FileWalk.{FileFixed, FileWent, IsFileOrigin, IsFilePlace, IsFileSpot, is_sound_at, moment_of, numbers_in, place_of};
+    ghost use Rattle.skip_decode.specs.OpensOf.{OpensFor};
     ghost use Rattle.skip_decode.specs.Spots.{stage_of};
+    ghost use Rattle.skip_decode.specs.Straight.{WentStraight, straight_moment};
     ghost use Rattle.skip_decode.specs.StreamEvents.{events_left, stream_events};
 
     type Spot = SkipSpot;
@@ -113,7 +173,8 @@ impl<'a, S: Store> Walk for SkipWalk<'a, S> {
 
     ghost sound = { λ w d. is_sound_at (moment_of w.window.source.opener.head w.names
         (S.served w.window.source.opener.store.now)
-        (S.holds w.window.source.opener.store.now) w.fault) d };
+        (S.holds w.window.source.opener.store.now)
+        (S.faults w.window.source.opener.store.now) w.fault) d };
 
     ghost broken = { λ w. w.fault };
 
@@ -123,12 +184,24 @@ impl<'a, S: Store> Walk for SkipWalk<'a, S> {
         (v.window.source.opener.store.ghost_name ≡ w.window.source.opener.store.ghost_name)
         × FileWent (moment_of w.window.source.opener.head w.names
         (S.served w.window.source.opener.store.now)
-        (S.holds w.window.source.opener.store.now) w.fault)
+        (S.holds w.window.source.opener.store.now)
+        (S.faults w.window.source.opener.store.now) w.fault)
         (moment_of v.window.source.opener.head v.names
         (S.served v.window.source.opener.store.now)
-        (S.holds v.window.source.opener.store.now) v.fault) };
+        (S.holds v.window.source.opener.store.now)
+        (S.faults v.window.source.opener.store.now) v.fault)
+        × OpensFor (moment_of w.window.source.opener.head w.names
+        (S.served w.window.source.opener.store.now)
+        (S.holds w.window.source.opener.store.now)
+        (S.faults w.window.source.opener.store.now) w.fault) o ps
+        (moment_of v.window.source.opener.head v.names
+        (S.served v.window.source.opener.store.now)
+        (S.holds v.window.source.opener.store.now)
+        (S.faults v.window.source.opener.store.now) v.fault) };
 
-    ghost straight = { λ w a v b. Unit {0} };
+    ghost straight = { λ w a v b. WentStraight
+        (straight_moment (S.served w.window.source.opener.store.now) w.fault a)
+        (straight_moment (S.served v.window.source.opener.store.now) v.fault b) };
 
     fn new_spot(&self, alloc: Global) -> Result<SkipSpot, NoMemory> {
         let spot = SkipSpot::new(alloc, self.numbers.dictionary)?;
@@ -165,7 +238,9 @@ impl<'a, S: Store> Walk for SkipWalk<'a, S> {
         self.fault
     }
 
-    ghost use Rattle.skip_decode.specs.inside.FileWalkLaws.{file_few, file_few_open, file_fresh, file_going, file_listed, file_named, file_open_tags, file_shallow, file_within};
+    ghost use Rattle.skip_decode.specs.inside.FileWalkLaws.{file_few, file_few_open, file_fresh, file_listed, file_named, file_open_tags, file_shallow, file_within};
+    ghost use Rattle.skip_decode.specs.inside.OpensLaws.{opening_going};
+    ghost use Rattle.skip_decode.specs.inside.StraightLaws.{straight_going};
 
     ghost listed = { file_listed };
 
@@ -183,11 +258,13 @@ impl<'a, S: Store> Walk for SkipWalk<'a, S> {
 
     ghost named = { file_named };
 
-    ghost going = { file_going
+    ghost going = { opening_going
         (λ w. moment_of w.window.source.opener.head w.names
         (S.served w.window.source.opener.store.now)
-        (S.holds w.window.source.opener.store.now) w.fault)
+        (S.holds w.window.source.opener.store.now)
+        (S.faults w.window.source.opener.store.now) w.fault)
         (λ w. w.window.source.opener.store.ghost_name) };
 
-    ghost going_straight = { record { nowhere = λ w a. tt; onward = λ u v w a b c h i. tt } };
+    ghost going_straight = { straight_going
+        (λ w a. straight_moment (S.served w.window.source.opener.store.now) w.fault a) };
 }

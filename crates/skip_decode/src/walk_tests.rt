@@ -6,7 +6,7 @@ ghost use Rattle.acl_model.specs.declared.document.Doc.{Doc};
 use super::*;
 use acl_bits::{Piece, Row};
 use acl_model::{Doc, Element, Item, Name, Sequence, is_document};
-use acl_outside::{ReadFault, SureStore};
+use acl_outside::{MemStore, ReadFault, SureStore};
 use acl_walk::{Event, Walk};
 use aes_block::Key128;
 use arrayvec::ArrayVec;
@@ -18,7 +18,6 @@ use sqlite_items::{Boxed, Items};
 use std::alloc::{AllocError, Global};
 use std::process::Abort;
 use std::test::Fail;
-use tag_dictionary::Dictionary;
 
 const KEY: [u8; 16] = [7; 16];
 
@@ -54,18 +53,24 @@ fn long_document(alloc: Global) -> Result<Doc, AllocError> {
     })
 }
 
-/// A file of the element `a` with the text `hi`, but for the first bit of its head, which is 0; and
-/// its root.
-fn wrong_head(alloc: Global) -> Result<(Vec<u8>, Digest), AllocError> {
+/// A file whose stream begins with these bytes, of which `dictionary` are its dictionary section, with one name; and
+/// its root. The tree section has 9 bytes.
+fn file_of(
+    rt: &impl Abort,
+    alloc: Global,
+    dictionary: u32,
+    stream: &[u8; 13],
+) -> Result<(Vec<u8>, Digest), AllocError> {
     let header = Header {
         tree: 9,
-        dictionary: 4,
+        dictionary,
         tags: 1,
         depth: 1,
         check: key_check(&KEY),
     };
+    assert!(rt; (4..=6).contains(&dictionary));
     let mut fragment = [0; 256];
-    fragment[..13].copy_from_slice(b"\0\x01\x01a\x20\0\0\0\0\0\x02hi");
+    fragment[..13].copy_from_slice(stream);
     lock_fragment(&Key128::new(KEY), 0, &mut fragment);
     let mut table = [0; 32];
     let top = write_table(&fragment, &mut table);
@@ -77,18 +82,15 @@ fn wrong_head(alloc: Global) -> Result<(Vec<u8>, Digest), AllocError> {
     Ok((bytes, root_of(&prefix, &top)))
 }
 
-/// A walk over a file with this root, whose dictionary section is this one.
+/// A walk over a file with this root.
 fn walk_over<'a>(
     rt: &impl Abort,
     alloc: Global,
     store: &'a mut SureStore,
     root: Digest,
-    section: &[u8],
 ) -> SkipWalk<'a, SureStore> {
     let opener = Opener::start(store, root, KEY).expect(rt, "the file");
-    let names = Dictionary::read(alloc, section).expect(rt, "the dictionary");
-    assert!(rt; names.names().len() == usize::from(opener.header().tags));
-    SkipWalk::over(opener, names)
+    SkipWalk::start(alloc, opener).expect(rt, "the names")
 }
 
 /// Takes the event at a spot, and checks that it is this one.
@@ -119,7 +121,8 @@ fn a_long_text_is_passed(rt: HostRuntime) -> Result<(), Fail> {
     let mut one = ArrayVec::new();
     one.try_extend_from_slice(b"1").unwrap();
     let mut store = SureStore::new(file.bytes.into_vec());
-    let mut walk = walk_over(&rt, alloc, &mut store, file.root, b"\0\x03\x01r\x01x\x01y");
+    let mut walk = walk_over(&rt, alloc, &mut store, file.root);
+    assert!(rt; walk.names().number(b"y") == Some(2));
     let mut spot = walk.new_spot(alloc)?;
     let none = Row::none();
     expect(&rt, &mut walk, &mut spot, &Event::Begin { tag: 0, below });
@@ -162,13 +165,57 @@ fn a_long_text_is_passed(rt: HostRuntime) -> Result<(), Fail> {
 #[test]
 fn a_wrong_head_is_refused_and_the_refusal_stays(rt: HostRuntime) -> Result<(), Fail> {
     let alloc = rt.alloc();
-    let (bytes, root) = wrong_head(alloc)?;
+    // The element `a` with the text `hi`, but for the first bit of its head, which is 0.
+    let (bytes, root) = file_of(&rt, alloc, 4, b"\0\x01\x01a\x20\0\0\0\0\0\x02hi")?;
     let mut store = SureStore::new(bytes);
-    let mut walk = walk_over(&rt, alloc, &mut store, root, b"\0\x01\x01a");
+    let mut walk = walk_over(&rt, alloc, &mut store, root);
     let mut spot = walk.new_spot(alloc)?;
     assert_eq!(rt; walk.next(&mut spot), Err(ReadFault::BadIndex));
     assert_eq!(rt; walk.next(&mut spot), Err(ReadFault::BadIndex));
     assert_eq!(rt; walk.refusal(), Some(ReadFault::BadIndex));
     assert_eq!(rt; walk.taken(), 2);
+    Ok(())
+}
+
+/// How a start ends on a file of these bytes, in a store whose reads of these numbers fail.
+fn start_fault(
+    rt: &impl Abort,
+    alloc: Global,
+    dictionary: u32,
+    stream: &[u8; 13],
+    fails: Vec<u64>,
+) -> Result<Option<StartFault>, AllocError> {
+    let (bytes, root) = file_of(rt, alloc, dictionary, stream)?;
+    let mut store = MemStore::new(bytes, fails);
+    let opener = Opener::start(&mut store, root, KEY).expect(rt, "the file");
+    Ok(SkipWalk::start(alloc, opener).err())
+}
+
+// The digests are right, but the dictionary section is wrong.
+#[test]
+fn a_wrong_dictionary_is_refused(rt: HostRuntime) -> Result<(), Fail> {
+    let alloc = rt.alloc();
+    let bad = Some(StartFault::Read(ReadFault::BadIndex));
+    let none = Vec::new(alloc);
+    // It says that there are two names, and has one.
+    let short = start_fault(&rt, alloc, 4, b"\0\x02\x01a\xa0\0\0\0\0\0\x02hi", none)?;
+    assert!(rt; short == bad);
+    let none = Vec::new(alloc);
+    // It has two names, and the header says one.
+    let other = start_fault(&rt, alloc, 6, b"\0\x02\x01a\x01b\xa0\0\0\0\0\0\0", none)?;
+    assert!(rt; other == bad);
+    Ok(())
+}
+
+// The reads 0 and 1 are those of the header and the top digest, and read 2 is that of the fragment.
+#[test]
+fn a_read_that_fails_ends_a_start(rt: HostRuntime) -> Result<(), Fail> {
+    let alloc = rt.alloc();
+    let stream = b"\0\x01\x01a\xa0\0\0\0\0\0\x02hi";
+    let fails = Vec::from_slice(alloc, &[3])?;
+    assert!(rt; start_fault(&rt, alloc, 4, stream, fails)?.is_none());
+    let fails = Vec::from_slice(alloc, &[2])?;
+    let failed = start_fault(&rt, alloc, 4, stream, fails)?;
+    assert!(rt; failed == Some(StartFault::Read(ReadFault::StoreFault)));
     Ok(())
 }

@@ -2,8 +2,9 @@
 //! another one is held.
 
 ghost use Rattle.std.specs.Prelude.{◌≡◌, ◌+◌, ◌*◌, ◌/◌, ◌%◌, ◌<◌, ◌≤◌, None, Some, length, take, drop, IsErrOf, OnOk};
-ghost use Rattle.skip_decode.specs.Fragments.{ForEach, FitsNone, Leads, Narrows};
-ghost use Rattle.skip_decode.specs.inside.Windows.{IsHeld};
+ghost use Rattle.std.specs.Option.{option_map};
+ghost use Rattle.skip_decode.specs.Fragments.{ForEach, FitsNone, Leads, Narrows, Refuses};
+ghost use Rattle.skip_decode.specs.inside.Windows.{AfterReads, HasRead, HasReadSome, IsHeld, IsNewest, OpensSame, touch};
 
 use crate::fragments::Fragments;
 use acl_outside::ReadFault;
@@ -40,10 +41,17 @@ impl<F: Fragments> Window<F> {
         requires within { index < F.count self.old.source }
         requires held { IsHeld (F.may_be self.old.source) self.old.held self.old.at }
         ensures same_count { F.count self.new.source ≡ F.count self.old.source }
+        ensures refuses { Refuses result (F.refused self.old.source) (F.refused self.new.source) }
         ensures held { IsHeld (F.may_be self.new.source) self.new.held self.new.at }
         ensures narrows { Narrows (F.may_be self.old.source) (F.may_be self.new.source) }
         ensures went { Leads F.went self.old.source self.new.source }
         ensures index { IsErrOf result ReadFault.BadIndex → FitsNone (F.may_be self.new.source) }
+        ensures opens { IsNewest self.old.at (F.opened self.old.source)
+            → OnOk result (F.opened self.new.source ≡ option_map (touch index) (F.opened self.old.source)) }
+        ensures newest { IsNewest self.old.at (F.opened self.old.source)
+            → OnOk result (IsNewest self.new.at (F.opened self.new.source)) }
+        ensures some { IsNewest self.old.at (F.opened self.old.source)
+            → OpensSame (touch index) (F.opened self.old.source) (F.opened self.new.source) }
         ensures at { OnOk result (self.new.at ≡ Some index) }
     {
         if self.at == Some(index) {
@@ -61,10 +69,15 @@ impl<F: Fragments> Window<F> {
         requires within { place + length into.old ≤ 256 * F.count self.old.source }
         requires held { IsHeld (F.may_be self.old.source) self.old.held self.old.at }
         ensures same_count { F.count self.new.source ≡ F.count self.old.source }
+        ensures refuses { Refuses result (F.refused self.old.source) (F.refused self.new.source) }
         ensures held { IsHeld (F.may_be self.new.source) self.new.held self.new.at }
         ensures narrows { Narrows (F.may_be self.old.source) (F.may_be self.new.source) }
         ensures went { Leads F.went self.old.source self.new.source }
         ensures index { IsErrOf result ReadFault.BadIndex → FitsNone (F.may_be self.new.source) }
+        ensures opens { AfterReads place self.old.at (F.opened self.old.source) (λ first start.
+            OnOk result (HasRead first start (place + length into.old) self.new.at (F.opened self.new.source))) }
+        ensures some { AfterReads place self.old.at (F.opened self.old.source) (λ first start.
+            HasReadSome first start (F.opened self.new.source)) }
         ensures bytes { OnOk result (ForEach (F.may_be self.new.source) (λ stream.
             into.new ≡ take (length into.old) (drop place stream))) }
     {
@@ -83,10 +96,15 @@ impl<F: Fragments> Window<F> {
         requires within { place + length into.old ≤ 256 * F.count self.old.source }
         requires held { IsHeld (F.may_be self.old.source) self.old.held self.old.at }
         ensures same_count { F.count self.new.source ≡ F.count self.old.source }
+        ensures refuses { Refuses result (F.refused self.old.source) (F.refused self.new.source) }
         ensures held { IsHeld (F.may_be self.new.source) self.new.held self.new.at }
         ensures narrows { Narrows (F.may_be self.old.source) (F.may_be self.new.source) }
         ensures went { Leads F.went self.old.source self.new.source }
         ensures index { IsErrOf result ReadFault.BadIndex → FitsNone (F.may_be self.new.source) }
+        ensures opens { AfterReads place self.old.at (F.opened self.old.source) (λ first start.
+            OnOk result (HasRead first start (place + length into.old) self.new.at (F.opened self.new.source))) }
+        ensures some { AfterReads place self.old.at (F.opened self.old.source) (λ first start.
+            HasReadSome first start (F.opened self.new.source)) }
         ensures bytes { OnOk result (ForEach (F.may_be self.new.source) (λ stream.
             into.new ≡ take (length into.old) (drop place stream))) }
     {

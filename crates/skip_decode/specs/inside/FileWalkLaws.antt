@@ -1,5 +1,5 @@
 -- The laws of a walk over a file, as the trait `Walk` has them.
-use Rattle.std.proofs.Common.{◌≡◌, ℕ, ◌^◌, ◌<◌, ◌≤◌, Bool, true, false, Option, Some, None, length, refl, ap, sym, ◌∙◌, subst, arith}
+use Rattle.std.proofs.Common.{◌≡◌, ℕ, ◌^◌, ◌<◌, ◌≤◌, Bool, true, false, Option, Some, None, List, length, refl, ap, sym, ◌∙◌, subst, arith}
 use Rattle.std.proofs.lemmas.Bool.{true≢false}
 use Rattle.std.proofs.lemmas.List.{length-map}
 use Rattle.std.proofs.lemmas.Option.{same_Some, none-some}
@@ -11,10 +11,13 @@ use Rattle.acl_walk.specs.Following.{Goes, Places}
 use Rattle.acl_walk.specs.Listed.{AreNames, IsListOf}
 use Rattle.acl_walk.specs.Nesting.{first_stage}
 use Rattle.acl_walk.specs.Open.{tags_at}
-use Rattle.skip_decode.specs.FileWalk.{FileFixed, FileMoment, FileWent, IsFileOrigin, IsFilePlace, IsFileSpot, is_sound_at, numbers_in, place_of}
+use Rattle.fragment_open.specs.Settled.{IsQuiet}
+use Rattle.fragment_open.specs.Sound.{tells_file}
+use Rattle.skip_decode.specs.FileWalk.{FileFixed, FileMoment, FileWent, IsFileOrigin, IsFilePlace, IsFileSpot, is_sound_at, numbers_in, place_of, store_of}
 use Rattle.skip_decode.specs.Positions.{Position}
 use Rattle.skip_decode.specs.Spots.{stage_of}
 use Rattle.skip_decode.specs.StreamEvents.{events_left, stream_events, weight}
+use Rattle.skip_decode.specs.inside.StoreLaws.{failure-onward, store-nowhere, store-onward}
 use Rattle.skip_decode.specs.declared.position.Level.{Level}
 use Rattle.skip_decode.specs.declared.position.Next.{Next}
 use Rattle.skip_decode.specs.declared.position.Next.TheVariants.{Root, Count, Attributes, Attribute, Item, Text, Finish, End}
@@ -87,8 +90,9 @@ module _ (w : FileMoment) where
   went-nowhere = record {
     same = refl;
     was_sound = λ d sound. sound;
-    stays = λ fault is. is;
     bad_index = λ none bad d origin. absurd (none-some BadIndex (sym none ∙ bad));
+    reads = store-nowhere (store_of w);
+    held = λ d origin told none. subst IsQuiet (sym none) tt;
   }
 
 -- A walk that wasn't sound isn't sound later.
@@ -104,15 +108,20 @@ pub went-onward : (u v w : FileMoment) → FileWent u v → FileWent v w → Fil
 went-onward u v w first second = record {
   same = second.same ∙ first.same;
   was_sound = λ d sound. first.was_sound d (second.was_sound d sound);
-  stays = λ fault is. second.stays fault (first.stays fault is);
   bad_index = λ none bad d origin. by_fault none bad d origin v.fault refl;
+  reads = store-onward (store_of u) (store_of v) (store_of w) first.reads second.reads;
+  held = λ d origin told none.
+      failure-onward (store_of u) (store_of v) (store_of w) second.reads (λ middle. second.held d origin told middle)
+      (first.held d (subst (λ (k : FileFixed). IsFileOrigin k d) second.same origin)
+      (subst (λ (o : Option (List ℕ)). tells_file o d v.fixed.key ≡ true) second.reads.held_is
+      (subst (λ (k : FileFixed). tells_file w.held d k.key ≡ true) second.same told)) none);
 }
   where
     by_fault : u.fault ≡ None → w.fault ≡ Some BadIndex → (d : Doc) → IsFileOrigin w.fixed d → (o : Option ReadFault)
         → v.fault ≡ o → is_sound_at w d ≡ false
     by_fault none bad d origin None middle = second.bad_index middle bad d origin
     by_fault none bad d origin (Some fault) middle =
-        let same : fault ≡ BadIndex = same_Some fault BadIndex (sym (second.stays fault middle) ∙ bad) in
+        let same : fault ≡ BadIndex = same_Some fault BadIndex (sym (second.reads.stays fault middle) ∙ bad) in
         unsound_later v w d second
         (first.bad_index none (middle ∙ ap Some same) d (subst (λ k. IsFileOrigin k d) second.same origin))
 
@@ -127,7 +136,7 @@ file-goes moment = record {
   unsound = λ w v d ps not_sound went. went;
   same = λ w v o ps went. went.same;
   was_sound = λ w v d ps went sound. went.was_sound d sound;
-  stays_broken = λ w v o ps fault went is. went.stays fault is;
+  stays_broken = λ w v o ps fault went is. went.reads.stays fault is;
 }
 
 -- The laws of `went`, for a walk with these moments over a store with this name.
@@ -143,5 +152,5 @@ file_going moment name =
       unsound = λ w v d ps not_sound went. went;
       same = λ w v o ps went. went.1.same;
       was_sound = λ w v d ps went sound. went.1.was_sound d sound;
-      stays_broken = λ w v o ps fault went is. went.1.stays fault is;
+      stays_broken = λ w v o ps fault went is. went.1.reads.stays fault is;
     }

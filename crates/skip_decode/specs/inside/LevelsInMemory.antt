@@ -1,6 +1,6 @@
 -- The open elements at a position as they are stored in memory, the innermost last. Defined by this
 -- project.
-use Rattle.std.specs.Prelude.{ℕ, ◌<◌, Option, None, Some, List, [], ◌∷◌, length, reverse}
+use Rattle.std.specs.Prelude.{◌<◌, Option, None, Some, List, [], ◌∷◌, length, reverse}
 use Rattle.skip_decode.specs.declared.position.Level.{Level}
 use Rattle.skip_decode.specs.StreamSteps.{Change, Stay, Open, Close}
 

@@ -1,5 +1,5 @@
 -- The fragments of bytes in memory. Defined by this project.
-use Rattle.std.proofs.Common.{◌≡◌, ℕ, ◌*◌, ◌/◌, ◌%◌, ◌≤◌, List, length, ap, ◌∙◌, arith}
+use Rattle.std.proofs.Common.{◌≡◌, ℕ, ◌*◌, ◌/◌, ◌%◌, ◌≤◌, List, length, ap, arith}
 
 -- the bytes of the longest stream make so many fragments
 pub few_fragments : (n : ℕ) → n ≤ 33554432 → n / 256 ≤ 131072

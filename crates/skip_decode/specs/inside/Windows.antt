@@ -1,5 +1,7 @@
 -- The fragment that is held of a stream. Defined by this project.
-use Rattle.std.specs.Prelude.{◌≡◌, ℕ, ◌+◌, ◌-◌, ◌/◌, zero, suc, nat_eq, if◌then◌else◌, Option, None, Some, List, [], ◌∷◌}
+use Rattle.std.specs.Prelude.{◌≡◌, ℕ, ◌+◌, ◌-◌, ◌/◌, ◌≤◌, ◌⊎◌, zero, suc, nat_eq, if◌then◌else◌, Option, None, Some, List, [], ◌∷◌}
+use Rattle.std.specs.Option.{option_map}
+use Rattle.acl_outside.specs.declared.read_fault.ReadFault.{ReadFault}
 use Rattle.std.proofs.Props.{props}
 use Rattle.skip_decode.specs.Fragments.{ForEach, fragment_of}
 
@@ -23,6 +25,20 @@ IsNewest None (Some (newest ∷ before)) = ⊥
 IsNewest (Some index) (Some []) = ⊥
 IsNewest (Some index) (Some (newest ∷ before)) = index ≡ newest
 
+-- Where nothing was refused, the newest of the fragments opened is the one held.
+abbrev pub IsNewestUnless : Option ReadFault → Option ℕ → Option (List ℕ) → Type 0
+IsNewestUnless fault at opened = fault ≡ None → IsNewest at opened
+
+-- "the newest is the one held" has at most one proof
+pub IsNewestUnless-prop : (fault : Option ReadFault) (at : Option ℕ) (opened : Option (List ℕ))
+    → IsProp (IsNewestUnless fault at opened)
+IsNewestUnless-prop fault None None = hlevel props
+IsNewestUnless-prop fault (Some index) None = hlevel props
+IsNewestUnless-prop fault None (Some []) = hlevel props
+IsNewestUnless-prop fault None (Some (newest ∷ before)) = hlevel props
+IsNewestUnless-prop fault (Some index) (Some []) = hlevel props
+IsNewestUnless-prop fault (Some index) (Some (newest ∷ before)) = hlevel props
+
 -- the fragments opened, once the one at this index is held
 unfoldable pub touch : ℕ → List ℕ → List ℕ
 touch index [] = index ∷ []
@@ -40,3 +56,26 @@ fragments_over place n = if nat_eq n 0 then 0 else (place + n - 1) / 256 - place
 -- the fragments opened, after the n bytes from a byte offset on were read
 abbrev pub touched : ℕ → ℕ → List ℕ → List ℕ
 touched place n opened = touch_from (fragments_over place n) (place / 256) opened
+
+-- The fragments opened are the same, or what the function makes of them.
+abbrev pub OpensSame : (List ℕ → List ℕ) → Option (List ℕ) → Option (List ℕ) → Type 0
+OpensSame more before after = (after ≡ before) ⊎ (after ≡ option_map more before)
+
+-- ---- what calls read, one after the other
+
+-- Since a moment at which the fragments opened were `first`, exactly the bytes from one byte offset up to another were
+-- read. The newest of the fragments opened is the one held.
+pub record HasRead (first : Option (List ℕ)) (start to : ℕ) (at : Option ℕ) (opened : Option (List ℕ)) : Type 0 where
+  pub rises : start ≤ to
+  pub newest : IsNewest at opened
+  pub opens : opened ≡ option_map (touched start (to - start)) first
+
+-- Since such a moment, so many bytes from a byte offset on were read.
+pub record HasReadSome (first : Option (List ℕ)) (start : ℕ) (opened : Option (List ℕ)) : Type 0 where
+  pub count : ℕ
+  pub opens : opened ≡ option_map (touched start count) first
+
+-- What is true after a call where exactly the bytes up to a byte offset were read before it, from whichever moment on.
+abbrev pub AfterReads : ℕ → Option ℕ → Option (List ℕ) → (Option (List ℕ) → ℕ → Type 0) → Type 0
+AfterReads place at opened so =
+    (first : Option (List ℕ)) (start : ℕ) → HasRead first start place at opened → so first start

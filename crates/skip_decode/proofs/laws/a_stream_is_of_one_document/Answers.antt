@@ -1,6 +1,6 @@
--- Both theorems follow from `one_document` of proofs/Documents.antt.
+-- Both theorems follow from `one_document` of proofs/Depths.antt.
 use Rattle.std.proofs.Common.{sym, ◌∙◌}
-use Rattle.skip_decode.proofs.Documents.{one_document}
+use Rattle.skip_decode.proofs.Depths.{one_document}
 use Rattle.skip_decode.proofs.laws.a_stream_is_of_one_document.Goals as goal
 
 pub returns : goal.returns

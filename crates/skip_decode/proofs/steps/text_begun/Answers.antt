@@ -6,3 +6,8 @@ pub returns-clause-moves : goal.returns-clause-moves
 returns-clause-moves g c =
     let inside : c.args.place + 4 + c.in-Some.long ≤ c.args.end = rw c.in-Some.is at c.in_ok-long.ensures.inside in
     some-so c.in_ok-step.step (λ step moves. moves c.args.end c.args.place inside (omega arith) (omega arith)) c.in_ok-step.ensures.moves
+
+pub returns-clause-rises : goal.returns-clause-rises
+returns-clause-rises g c =
+    let inside : c.args.place + 4 + c.in-Some.long ≤ c.args.end = rw c.in-Some.is at c.in_ok-long.ensures.inside in
+    some-so c.in_ok-step.step (λ step moves. let more = (moves c.args.end c.args.place inside (omega arith) (omega arith)).1.2 in omega (arith, more)) c.in_ok-step.ensures.moves

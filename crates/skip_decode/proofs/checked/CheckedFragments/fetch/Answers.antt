@@ -1,13 +1,13 @@
-use Rattle.std.proofs.Common.{◌≡◌, ◌∙◌, true, ap, refl, sym, subst}
+use Rattle.std.proofs.Common.{◌≡◌, ◌∙◌, ap, refl, sym, subst}
 use Rattle.std.specs.Prelude.{Option, None, Some, IfSome, Result, Err, OnOk}
-use Rattle.acl_model.specs.declared.document.Doc.{Doc}
 use Rattle.acl_outside.specs.declared.read_fault.ReadFault.{ReadFault}
 use Rattle.acl_outside.specs.declared.read_fault.ReadFault.TheVariants.{BadIndex}
 use Rattle.fragment_open.specs.Settled.{Settled}
-use Rattle.fragment_open.specs.Sound.{sound_for}
-use Rattle.skip_decode.specs.CheckedStream.{MayBe}
-use Rattle.skip_decode.specs.Fragments.{FitsNone, ForEach, Narrows, fragment_of}
-use Rattle.skip_decode.proofs.OpenerLemmas.{bad_index_none, err_of_kept, fault_in, fragment_given, narrower_sound, narrower_stream, same_sound, same_stream}
+use Rattle.skip_decode.specs.CheckedStream.{Fetched, MayBe, store_moment}
+use Rattle.skip_decode.specs.Fragments.{FitsNone, ForEach, Narrows, Refuses, fragment_of}
+use Rattle.skip_decode.specs.inside.StoreLaws.{fetched-onward, fetched-same}
+use Rattle.skip_decode.proofs.FetchedLemmas.{fetched-one, refuses_again, refuses_so}
+use Rattle.skip_decode.proofs.OpenerLemmas.{bad_index_none, err_of_kept, fault_in, fragment_given, narrower_stream, same_stream}
 use Rattle.skip_decode.proofs.checked.CheckedFragments.fetch.Goals as goal
 
 pub returns-clause-narrows : goal.returns-clause-narrows
@@ -28,30 +28,50 @@ returns-clause-narrows g c = by c.args.self.now.opener.fault refl
         same_stream old.head new.head c.fetch.ensures.same_head (g.S.Store.served old.store.now) (g.S.Store.served new.store.now) (g.S.Store.holds old.store.now) (g.S.Store.holds new.store.now) c.fetch.ensures.constant
         (λ i. g.S.Store.served (same i).store.now)
 
+pub returns-clause-refuses : goal.returns-clause-refuses
+returns-clause-refuses g c = by c.args.self.now.opener.fault refl
+  where
+    by : (fault : Option ReadFault) → c.args.self.now.opener.fault ≡ fault → Refuses c.fetch.result c.args.self.now.opener.fault c.fetch.new.self.fault
+    by None quiet = refuses_so c.fetch.result c.args.self.now.opener.fault c.fetch.new.self.fault quiet c.fetch.ensures.stays
+    by (Some fault) refused =
+        let again = subst (λ (o : Option ReadFault). IfSome o (λ f. (c.fetch.result ≡ Err f) × (c.fetch.new.self ≡ c.args.self.now.opener))) refused c.fetch.ensures.again in
+        let same = again.1 in
+        refuses_again c.fetch.result fault c.args.self.now.opener.fault c.fetch.new.self.fault again.0 refused (λ i. (same i).fault)
+
 pub returns-clause-went : goal.returns-clause-went
 returns-clause-went g c = λ past led. (
   c.fetch.ensures.same_store ∙ led.0,
-  record {
-    head = c.fetch.ensures.same_head ∙ led.1.head;
-    constant = c.fetch.ensures.constant ∙ led.1.constant;
-    was_sound = λ d sound. led.1.was_sound d (by c.args.self.now.opener.fault refl d sound);
-  },
+  fetched-onward past.opener.head c.args.self.now.opener.head c.fetch.new.self.head
+      (store_moment (g.S.Store.served past.opener.store.now) (g.S.Store.holds past.opener.store.now) (g.S.Store.faults past.opener.store.now) past.opener.fault)
+      (store_moment (g.S.Store.served c.args.self.now.opener.store.now) (g.S.Store.holds c.args.self.now.opener.store.now) (g.S.Store.faults c.args.self.now.opener.store.now) c.args.self.now.opener.fault)
+      (store_moment (g.S.Store.served c.fetch.new.self.store.now) (g.S.Store.holds c.fetch.new.self.store.now) (g.S.Store.faults c.fetch.new.self.store.now) c.fetch.new.self.fault)
+      led.1 (by c.args.self.now.opener.fault refl),
 )
   where
-    by : (fault : Option ReadFault) → c.args.self.now.opener.fault ≡ fault → (d : Doc)
-        → sound_for (g.S.Store.served c.fetch.new.self.store.now) (g.S.Store.holds c.fetch.new.self.store.now) d c.fetch.new.self.head.key ≡ true
-        → sound_for (g.S.Store.served c.args.self.now.opener.store.now) (g.S.Store.holds c.args.self.now.opener.store.now) d c.args.self.now.opener.head.key ≡ true
+    by : (fault : Option ReadFault) → c.args.self.now.opener.fault ≡ fault
+        → Fetched c.args.self.now.opener.head c.fetch.new.self.head
+        (store_moment (g.S.Store.served c.args.self.now.opener.store.now) (g.S.Store.holds c.args.self.now.opener.store.now) (g.S.Store.faults c.args.self.now.opener.store.now) c.args.self.now.opener.fault)
+        (store_moment (g.S.Store.served c.fetch.new.self.store.now) (g.S.Store.holds c.fetch.new.self.store.now) (g.S.Store.faults c.fetch.new.self.store.now) c.fetch.new.self.fault)
     by None quiet =
         let old = c.args.self.now.opener in
         let new = c.fetch.new.self in
-        narrower_sound old.head new.head c.fetch.ensures.same_head (g.S.Store.served old.store.now) (g.S.Store.served new.store.now) (g.S.Store.holds old.store.now) (g.S.Store.holds new.store.now) c.fetch.ensures.constant
-        old.kept (subst (Settled (g.S.Store.served old.store.now) old.head.header old.head.top old.kept) quiet old.settled) c.fetch.ensures.grown
+        subst (λ (o : Option ReadFault). Fetched old.head new.head
+        (store_moment (g.S.Store.served old.store.now) (g.S.Store.holds old.store.now) (g.S.Store.faults old.store.now) o)
+        (store_moment (g.S.Store.served new.store.now) (g.S.Store.holds new.store.now) (g.S.Store.faults new.store.now) new.fault)) (sym quiet)
+        (fetched-one c.args.index old.head new.head c.fetch.ensures.same_head (g.S.Store.served old.store.now) (g.S.Store.served new.store.now) (g.S.Store.holds old.store.now) (g.S.Store.holds new.store.now) c.fetch.ensures.constant
+        (g.S.Store.faults old.store.now) (g.S.Store.faults new.store.now) c.fetch.new.into
+        old.kept (subst (Settled (g.S.Store.served old.store.now) old.head.header old.head.top old.kept) quiet old.settled)
+        c.fetch.result new.fault c.fetch.ensures.stays c.fetch.ensures.grown (c.fetch.ensures.ends quiet) (c.fetch.ensures.checked quiet)
+        (c.fetch.ensures.cause quiet) c.fetch.ensures.never_falls (c.fetch.ensures.quiet quiet) (c.fetch.ensures.quiet_else quiet) new.quiet)
     by (Some fault) refused =
         let old = c.args.self.now.opener in
         let new = c.fetch.new.self in
         let same = (subst (λ (o : Option ReadFault). IfSome o (λ f. (c.fetch.result ≡ Err f) × (c.fetch.new.self ≡ c.args.self.now.opener))) refused c.fetch.ensures.again).1 in
-        same_sound old.head new.head c.fetch.ensures.same_head (g.S.Store.served old.store.now) (g.S.Store.served new.store.now) (g.S.Store.holds old.store.now) (g.S.Store.holds new.store.now) c.fetch.ensures.constant
-        (λ i. g.S.Store.served (same i).store.now)
+        fetched-same old.head new.head
+        (store_moment (g.S.Store.served old.store.now) (g.S.Store.holds old.store.now) (g.S.Store.faults old.store.now) old.fault)
+        (store_moment (g.S.Store.served new.store.now) (g.S.Store.holds new.store.now) (g.S.Store.faults new.store.now) new.fault)
+        c.fetch.ensures.same_head
+        (λ i. store_moment (g.S.Store.served (same i).store.now) (g.S.Store.holds (same i).store.now) (g.S.Store.faults (same i).store.now) (same i).fault)
 
 pub returns-clause-index : goal.returns-clause-index
 returns-clause-index g c = by c.args.self.now.opener.fault refl
