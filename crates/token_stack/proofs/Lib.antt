@@ -12,3 +12,8 @@ pub mod SignLaws
 pub mod BoundLaws
 pub mod BoundRows
 pub mod BoundExamples
+pub mod WayLaws
+pub mod StateRowLaws
+pub mod HitLaws
+pub mod PredicateLevelLaws
+pub mod ReadLaws

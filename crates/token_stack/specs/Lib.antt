@@ -4,5 +4,11 @@ pub mod Stand
 pub mod TokensStand
 pub mod Invariant
 pub mod Bounds
+pub mod WayNames
+pub mod StateRows
+pub mod Hits
+pub mod PredicateLevels
+pub mod ReadValues
+pub mod RowExamples
 pub mod SignRows
 pub mod inside

@@ -6,6 +6,7 @@ mod bound_laws;
 mod entry;
 mod laws;
 mod moves;
+mod predicate_laws;
 mod rows;
 mod sign_laws;
 mod tokens;
@@ -20,6 +21,12 @@ pub use laws::{
     levels_follow_tags, open_elements_stand_in_the_document, rows_have_the_rules_that_select,
     standing_tokens_are_sure_and_complete, standing_tokens_have_the_rules_that_select,
     tokens_follow_events,
+};
+pub use predicate_laws::{
+    events_meet_what_they_hit, levels_follow_events, levels_give_the_bounds, levels_give_the_rules,
+    levels_join, levels_tell_what_steps_keep, rows_of_a_small_document,
+    rows_of_steps_tell_what_paths_select, rows_rise_as_ways_lead,
+    rows_rise_from_the_innermost_element, values_are_read_whole, ways_lead_by_names,
 };
 pub use sign_laws::{standing_rows_give_signs, standing_tokens_give_signs};
 pub use tokens::Tokens;
