@@ -3,7 +3,7 @@
 
 use acl_model::{Bytes, Doc, Element, Item, Sequence};
 use acl_outside::{Failed, MemSink, MemSource};
-use esis_lines::{DocFault, ReadAllFault, read_all, read_doc, write_doc};
+use esis_lines::{ReadAllFault, read_all, write_doc};
 use sqlite_items::{Boxed, Items};
 use std::alloc::{AllocError, Global};
 use std::test::Fail;

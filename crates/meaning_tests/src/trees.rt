@@ -15,8 +15,7 @@ use std::alloc::Global;
 use std::process::Abort;
 use std::test::Fail;
 use tree_meaning::{
-    Told, WriteViewFault, explain_tree, selected, sign_at, view_tree, write_explanation,
-    write_explanation_of, write_view,
+    explain_tree, selected, sign_at, view_tree, write_explanation, write_explanation_of, write_view,
 };
 
 // ---- documents, as lines

@@ -3,8 +3,8 @@
 
 use acl_model::{Operand, Sign};
 use licence::{
-    Keys, KeysError, Licence, LicenceFault, read_body, read_keys, read_licence, seal_text,
-    sealed_is_read, written_is_read,
+    KeysError, LicenceFault, read_body, read_keys, read_licence, seal_text, sealed_is_read,
+    written_is_read,
 };
 use std::alloc::{AllocError, Global};
 use std::test::Fail;
