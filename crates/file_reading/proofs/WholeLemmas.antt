@@ -9,7 +9,7 @@ use Rattle.acl_outside.specs.declared.read_fault.ReadFault.TheVariants.{BadFragm
 use Rattle.merkle_chunks.specs.HeaderBytes.{fragment_count}
 use Rattle.merkle_chunks.specs.declared.header.Header.{Header}
 use Rattle.skip_decode.specs.StreamOf.{IsStreamOf}
-use Rattle.skip_decode.proofs.Documents.{one_document}
+use Rattle.skip_decode.proofs.Depths.{one_document}
 use Rattle.fragment_open.specs.Checked.{AllFoldUnlessRefused}
 use Rattle.fragment_open.specs.Good.{AllFoldAsWanted}
 use Rattle.fragment_open.specs.Hashed.{folded, folded_in}
