@@ -4,7 +4,7 @@ use Rattle.acl_bits.specs.FilledBits.{bits_of_bytes}
 use Rattle.acl_model.specs.StreamBits as model
 use Rattle.acl_model.specs.Width.{binary_length}
 use Rattle.acl_model.specs.Stream.{rank, set_bits, head_bits}
-use Rattle.skip_decode.specs.inside.TreeReading.{take_bits}
+use Rattle.skip_decode.specs.inside.HeadReading.{take_bits}
 use Rattle.skip_decode.proofs.Taking.{bits_of_bytes-append, bits_of_bytes-model}
 use Rattle.skip_decode.proofs.Heads.{one_bit}
 

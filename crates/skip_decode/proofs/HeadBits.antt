@@ -7,7 +7,7 @@ use Rattle.acl_bits.specs.inside.RowLaws.{row_of-same, is_member-row_of, row_of-
 use Rattle.acl_bits.proofs.Members.{length-numbers_below}
 use Rattle.skip_decode.specs.declared.head.Head.{Head}
 use Rattle.skip_decode.specs.StreamSteps.{met_with}
-use Rattle.skip_decode.specs.inside.TreeReading.{head_bytes}
+use Rattle.skip_decode.specs.inside.HeadReading.{head_bytes}
 
 -- Bits after a number don't make it less.
 pub number_after-least : (high : ℕ) (bits : List Bool) → high ≤ number_after high bits

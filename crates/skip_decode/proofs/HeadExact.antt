@@ -20,7 +20,7 @@ use Rattle.acl_model.specs.Width.{binary_length}
 use Rattle.acl_model.specs.Stream.{has_member, rank, set_bits, head_bits}
 use Rattle.acl_model.proofs.SizeLaws as sizes
 use Rattle.skip_decode.specs.declared.head.Head.{Head}
-use Rattle.skip_decode.specs.inside.TreeReading.{take_bits, with_number, take_members, not_empty, take_below, head_bytes, take_head_on}
+use Rattle.skip_decode.specs.inside.HeadReading.{take_bits, with_number, take_members, not_empty, take_below, head_bytes, take_head_on}
 use Rattle.skip_decode.specs.StreamHeads.{take_within, number_width, inner_bit, inner_at, filled_head, whole_head, head_at}
 use Rattle.skip_decode.specs.StreamSteps.{inner_of}
 use Rattle.skip_decode.proofs.StepKinds.{and_then_some, cond_some}

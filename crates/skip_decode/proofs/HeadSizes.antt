@@ -5,7 +5,7 @@ use Rattle.acl_bits.specs.Row.{IsRow}
 use Rattle.acl_outside.specs.declared.read_fault.ReadFault.{ReadFault}
 use Rattle.skip_decode.specs.StreamHeads.{inner_bit, number_width, whole_head}
 use Rattle.skip_decode.specs.declared.head.Head.{Head}
-use Rattle.skip_decode.specs.inside.TreeReading.{head_bytes}
+use Rattle.skip_decode.specs.inside.HeadReading.{head_bytes}
 use Rattle.skip_decode.proofs.HeadExact.{head-size}
 
 -- What is true at the end of the bytes read is true at the end of the head.

@@ -19,7 +19,7 @@ use Rattle.skip_decode.specs.declared.position.Level.{Level}
 use Rattle.skip_decode.specs.declared.position.Next.TheVariants.{Count, Item}
 use Rattle.skip_decode.specs.Positions.{Numbers}
 use Rattle.skip_decode.specs.StreamSteps.{Step, Open, inner_of, saved_bytes, met_with, parent_with, level_of, may_begin, begun_with, element_begun, text_begun, finish_step, checked_finish, item_by, item_step, step_at}
-use Rattle.skip_decode.specs.inside.TreeReading.{take_bits, head_bytes, take_head_on}
+use Rattle.skip_decode.specs.inside.HeadReading.{take_bits, head_bytes, take_head_on}
 use Rattle.skip_decode.proofs.Taking.{take_bits-model, bits_of_bytes-append, bits_of_bytes-model}
 use Rattle.skip_decode.proofs.Heads.{IsPart, one_bit, take_head_on-read, head_bytes-counted, length-row, rank-member, number-fits}
 use Rattle.skip_decode.proofs.FirstBits.{bits_after, first_bit}

@@ -15,7 +15,7 @@ use Rattle.acl_model.specs.Stream.{has_member, numbers_with, rank, set_bits, hea
 use Rattle.acl_model.proofs.WidthLaws.{least_width-least}
 use Rattle.acl_model.proofs.SizeLaws.{length-head_bits, length-set_bits}
 use Rattle.skip_decode.specs.declared.head.Head.{Head}
-use Rattle.skip_decode.specs.inside.TreeReading.{take_bits, with_number, take_members, not_empty, take_below, head_bytes, take_head_on}
+use Rattle.skip_decode.specs.inside.HeadReading.{take_bits, with_number, take_members, not_empty, take_below, head_bytes, take_head_on}
 use Rattle.skip_decode.specs.StreamSteps.{inner_of}
 use Rattle.skip_decode.proofs.Taking.{take_bits-prefix, take_bits-model}
 

@@ -7,7 +7,7 @@ use Rattle.acl_bits.specs.FilledBits.{bits_of, number_of, bits_of_bytes}
 use Rattle.acl_bits.proofs.BitStrings.{bits_of-number_of, number_of-lt}
 use Rattle.acl_model.specs.StreamBits as model
 use Rattle.acl_model.proofs.SizeLaws as sizes
-use Rattle.skip_decode.specs.inside.TreeReading.{take_bits}
+use Rattle.skip_decode.specs.inside.HeadReading.{take_bits}
 use Rattle.skip_decode.specs.StreamHeads.{inner_bit}
 use Rattle.skip_decode.proofs.StepKinds.{and_then_some, cond_some}
 use Rattle.skip_decode.proofs.SpotHeads.{cond_option}

@@ -8,6 +8,7 @@ pub mod ExactRuns
 pub mod FetchedLemmas
 pub mod FileSteps
 pub mod FileWalkLaws
+pub mod Fills
 pub mod FirstBits
 pub mod HeadBits
 pub mod HeadExact
@@ -16,6 +17,7 @@ pub mod HeadSteps
 pub mod Heads
 pub mod HeldNames
 pub mod InnerBits
+pub mod ItemLevels
 pub mod LevelLaws
 pub mod MoveLaws
 pub mod Moves
@@ -27,6 +29,7 @@ pub mod OpensSteps
 pub mod PassRuns
 pub mod PieceRuns
 pub mod ReadAttributes
+pub mod ReadDocuments
 pub mod ReadElements
 pub mod ReadHeads
 pub mod ReadItems

@@ -14,7 +14,7 @@ use Rattle.skip_decode.specs.declared.position.Level.{Level}
 use Rattle.skip_decode.specs.declared.position.Next.TheVariants.{Count}
 use Rattle.skip_decode.specs.StreamHeads.{number_width, head_at}
 use Rattle.skip_decode.specs.StreamSteps.{Step, Open, inner_of, saved_bytes, parent_with, level_of, may_begin, begun_with, element_begun}
-use Rattle.skip_decode.specs.inside.TreeReading.{head_bytes}
+use Rattle.skip_decode.specs.inside.HeadReading.{head_bytes}
 use Rattle.skip_decode.proofs.HeadExact.{Exact, head_exact}
 use Rattle.skip_decode.proofs.Heads.{head_bytes-counted}
 use Rattle.skip_decode.proofs.HeldNames.{either}

@@ -6,7 +6,7 @@ use Rattle.std.specs.List.{list_all}
 use Rattle.std.proofs.Math.Seq.{take-add}
 use Rattle.std.proofs.lemmas.Bool.Decides.{nat_tests}
 use Rattle.std.proofs.lemmas.List.{length-take-le}
-use Rattle.acl_model.specs.Document.{is_document}
+use Rattle.acl_model.specs.Document.{is_document, height}
 use Rattle.acl_model.specs.Dictionary.{dictionary, dictionary_section, is_dictionary, are_distinct}
 use Rattle.acl_model.specs.Names.{is_name}
 use Rattle.acl_model.specs.Stream.{bytes_of_segments, tree_segments, tree_section, filled_fragments, depth}
@@ -79,7 +79,33 @@ module _ (header : Header) (names : List (List ℕ)) (stream : List ℕ)
         depth = sym tall;
       }
 
--- A document that the events spell. Where it has the dictionary and the depth, its stream and header are these.
+-- The document that the events spell. It is no deeper than the header says. Where it is valid and has the dictionary
+-- and the depth, its stream and header are these.
+pub record OneSpelling (header : Header) (names : List (List ℕ)) (stream : List ℕ) (events : List Event) : Type 0 where
+  pub document : Doc
+  pub spells : Spells names (Some document) (events ++ (End ∷ []))
+  pub low : height document.root ≤ header.depth
+  pub made : is_document document ≡ true → dictionary document ≡ names → depth document ≡ header.depth
+      → IsStreamOf document stream header
+
+pub one_spelling : (header : Header) (names : List (List ℕ)) (stream : List ℕ) (events : List Event)
+    → is_dictionary names ≡ true → length names ≡ header.tags → All (λ b. b < 256) stream
+    → header.dictionary + header.tree ≤ length stream → header.dictionary + header.tree ≤ 33554432
+    → take header.dictionary stream ≡ dictionary_section names
+    → stream ≡ filled_fragments (take (header.dictionary + header.tree) stream)
+    → IsReadToEnd (numbers_in header) stream events → OneSpelling header names stream events
+one_spelling header names stream events is named fit whole small section filled ends =
+    let good = names_of names is in
+    let read = tree_read (numbers_in header) stream fit names good.few good.formed good.new named whole
+    (omega (arith, small)) events ends in
+    let d : Doc = record { root = read.root } in record {
+      document = d;
+      spells = a_document names d events read.spells;
+      low = read.low;
+      made = stream_made header names stream section whole small filled good.few named d read.bytes;
+    }
+
+-- the same, as the law says it
 pub stream_read : (header : Header) (names : List (List ℕ)) (stream : List ℕ) (events : List Event)
     → is_dictionary names ≡ true → length names ≡ header.tags → All (λ b. b < 256) stream
     → header.dictionary + header.tree ≤ length stream → header.dictionary + header.tree ≤ 33554432
@@ -89,11 +115,5 @@ pub stream_read : (header : Header) (names : List (List ℕ)) (stream : List ℕ
     → (d : Doc) × Spells names (Some d) (events ++ (End ∷ []))
     × (is_document d ≡ true → dictionary d ≡ names → depth d ≡ header.depth → IsStreamOf d stream header)
 stream_read header names stream events is named fit whole small section filled ends =
-    let good = names_of names is in
-    let read = tree_read (numbers_in header) stream fit names good.few good.formed good.new named whole
-    (omega (arith, small)) events ends in
-    let d : Doc = record { root = read.root } in (
-      d,
-      a_document names d events read.spells,
-      stream_made header names stream section whole small filled good.few named d read.bytes,
-    )
+    let one = one_spelling header names stream events is named fit whole small section filled ends in
+    (one.document, one.spells, one.made)

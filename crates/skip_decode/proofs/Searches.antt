@@ -4,7 +4,7 @@ use Rattle.std.specs.Option.{option_and_then}
 use Rattle.std.proofs.lemmas.Bool.Decides.{nat_tests}
 use Rattle.acl_bits.specs.Row.{row_of, is_member}
 use Rattle.acl_model.specs.Width.{first_from, least_width, binary_length}
-use Rattle.skip_decode.specs.inside.TreeReading.{take_bits, with_number, take_members}
+use Rattle.skip_decode.specs.inside.HeadReading.{take_bits, with_number, take_members}
 
 -- ---- widths
 

@@ -20,7 +20,7 @@ use Rattle.skip_decode.specs.StreamHeads.{take_within, inner_bit, inner_at, whol
 use Rattle.skip_decode.specs.StreamSteps.{length_at, text_step, text_begun, attribute_step, attributes_step, count_step, begun_with, element_begun, checked_finish, item_step, root_step, step_at}
 use Rattle.skip_decode.specs.StreamEvents.{run, events_from, stream_events}
 use Rattle.skip_decode.specs.inside.SmallStreams.{one_text_events, one_child_events, two_children_events}
-use Rattle.skip_decode.specs.inside.TreeReading.{take_bits, with_number, take_members, not_empty, take_below, take_head_on}
+use Rattle.skip_decode.specs.inside.HeadReading.{take_bits, with_number, take_members, not_empty, take_below, take_head_on}
 
 -- the events of a stream with these sections, so many names and so many levels
 abbrev read_as : List ℕ → List ℕ → ℕ → ℕ → List Event

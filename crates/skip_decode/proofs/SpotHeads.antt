@@ -12,7 +12,7 @@ use Rattle.acl_bits.specs.FilledBits.{number_of, bits_of_bytes}
 use Rattle.acl_bits.specs.Row.{row_of, is_member}
 use Rattle.acl_model.specs.Width.{binary_length, least_width, first_from}
 use Rattle.skip_decode.specs.declared.head.Head.{Head}
-use Rattle.skip_decode.specs.inside.TreeReading.{take_bits, with_number, take_members, not_empty, take_below, head_bytes, take_head_on}
+use Rattle.skip_decode.specs.inside.HeadReading.{take_bits, with_number, take_members, not_empty, take_below, head_bytes, take_head_on}
 use Rattle.skip_decode.specs.StreamHeads.{take_within, number_width, inner_at, filled_head, whole_head, head_at}
 use Rattle.skip_decode.proofs.StepKinds.{and_then_some, cond_some}
 

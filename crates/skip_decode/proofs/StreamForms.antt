@@ -1,6 +1,7 @@
 -- What is known of the bytes and the header of a document.
-use Rattle.std.proofs.Common.{◌≡◌, ℕ, true, List, ◌++◌, length, take, sym, ap, ◌∙◌, append_assoc}
+use Rattle.std.proofs.Common.{◌≡◌, ℕ, true, List, ◌+◌, ◌-◌, ◌%◌, ◌≤◌, ◌++◌, length, take, sym, ap, ◌∙◌, arith, append_assoc, length-append}
 use Rattle.std.proofs.Math.Seq.{take-append_seam}
+use Rattle.std.proofs.lemmas.List.{length-replicate}
 use Rattle.acl_model.specs.Dictionary.{dictionary, dictionary_section, is_dictionary}
 use Rattle.acl_model.specs.Document.{is_document}
 use Rattle.acl_model.specs.Stream.{depth, has_stream, plain, tree_section}
@@ -11,8 +12,9 @@ use Rattle.skip_decode.specs.FileWalk.{numbers_in}
 use Rattle.skip_decode.specs.Positions.{Numbers}
 use Rattle.skip_decode.specs.StreamEvents.{numbers_of}
 use Rattle.skip_decode.specs.StreamOf.{IsStreamOf}
-use Rattle.skip_decode.specs.inside.Reading.{IsNamedStreamed}
-use Rattle.skip_decode.proofs.Documents.{dictionary_formed, zeros}
+use Rattle.skip_decode.specs.inside.Reading.{IsFormed}
+use Rattle.skip_decode.proofs.Documents.{dictionary_formed, few_so, low_so, small_so, zeros}
+use Rattle.skip_decode.proofs.Fills.{filled_is}
 
 -- The dictionary section is at the start of the stream.
 pub section_first : (d : Doc) → take (length (dictionary_section (dictionary d))) (plain d)
@@ -41,7 +43,7 @@ module _ (d : Doc) (stream : List ℕ) (header : Header) (of : IsStreamOf d stre
   section_there = (dictionary_formed d of.document of.within, sym section_is)
 
   -- The numbers are those of the header.
-  numbers_are : numbers_of d ≡ numbers_in header
+  pub numbers_are : numbers_of d ≡ numbers_in header
   numbers_are =
       let parts : ℕ → ℕ → ℕ → ℕ → Numbers = λ section tree names depth.
       record { dictionary = section; tree = tree; names = names; depth = depth } in
@@ -50,16 +52,31 @@ module _ (d : Doc) (stream : List ℕ) (header : Header) (of : IsStreamOf d stre
       ∙ ap (λ n. parts header.dictionary header.tree n (depth d)) (sym of.tags)
       ∙ ap (λ n. parts header.dictionary header.tree header.tags n) (sym of.depth)
 
-  -- The document has this stream, and the names that are read from it are the document's.
-  pub streamed : (names : List (List ℕ)) → is_dictionary names ≡ true
-      → dictionary_section names ≡ take header.dictionary stream
-      → IsNamedStreamed d names (numbers_in header) stream
-  streamed names formed spelled = record {
-    streamed = record {
-      document = of.document;
-      within = of.within;
-      numbers = numbers_are;
-      bytes = sym of.bytes;
-    };
-    named = names_same d names of.document of.within formed (spelled ∙ section_is ∙ sym (section_first d));
-  }
+  -- Names that are read from the bytes before the tree section are the document's.
+  pub names_there : (names : List (List ℕ)) → is_dictionary names ≡ true
+      → dictionary_section names ≡ take header.dictionary stream → dictionary d ≡ names
+  names_there names formed spelled =
+      names_same d names of.document of.within formed (spelled ∙ section_is ∙ sym (section_first d))
+
+  -- The bytes and the header have the form of those of a document.
+  pub form_is : IsFormed stream header
+  form_is =
+      let section : List ℕ = dictionary_section (dictionary d) in
+      let tree : List ℕ = tree_section d in
+      let front = length-append section tree in
+      let both : length (section ++ tree) ≡ header.dictionary + header.tree =
+      let one = of.dictionary in
+      let other = of.tree in omega (arith, front, one, other) in
+      let small : length (section ++ tree) ≤ 33554432 =
+      let least = small_so d of.within in omega (arith, front, least) in
+      let long : length stream ≡ length (section ++ tree) + (256 - length (section ++ tree) % 256) % 256 =
+      ap (λ (l : List ℕ). length l) of.bytes ∙ length-append (section ++ tree) (zeros d)
+      ∙ ap (λ n. length (section ++ tree) + n) (length-replicate ((256 - length (section ++ tree) % 256) % 256) 0) in
+      record {
+        whole = omega (arith, long);
+        few = omega (arith, long, small);
+        names = let few = few_so d of.within in let is = of.tags in omega (arith, few, is);
+        deep = let low = low_so d of.document in let is = of.depth in omega (arith, low, is);
+        within = omega (arith, long, both);
+        filled = filled_is (section ++ tree) stream (header.dictionary + header.tree) of.bytes (sym both);
+      }

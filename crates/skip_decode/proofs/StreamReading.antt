@@ -1,28 +1,22 @@
--- The steps of a reader along a stream in memory, for each document that has the stream.
-use Rattle.std.proofs.Common.{◌≡◌, ℕ, ◌+◌, ◌<◌, ◌≤◌, true, false, cond, Option, Some, None, List, length, drop, refl, sym, ap, subst, ◌∙◌, arith}
-use Rattle.std.specs.Option.{option_and_then}
-use Rattle.std.proofs.lemmas.Option.{none-some}
-use Rattle.acl_model.specs.Dictionary.{dictionary}
-use Rattle.acl_model.specs.Stream.{plain}
+-- The steps of a reader along a stream in memory, and what its events build.
+use Rattle.std.proofs.Common.{◌≡◌, ℕ, zero, suc, ◌+◌, ◌<◌, ◌≤◌, true, false, cond, Option, Some, None, List, [], ◌∷◌, length, refl, sym, ap, subst, ◌∙◌, arith}
+use Rattle.std.specs.Option.{option_and_then, option_map}
+use Rattle.std.proofs.lemmas.Option.{none-some, same_Some}
 use Rattle.acl_model.specs.declared.document.Doc.{Doc}
-use Rattle.acl_walk.specs.SpotMoves.{Falls, StandsAt, place_after}
+use Rattle.acl_walk.specs.SpotMoves.{Falls}
 use Rattle.acl_walk.specs.declared.event.Event.{Event}
 use Rattle.acl_walk.specs.declared.event.Event.TheVariants.{Begin, Attr, HeadEnd, Text, Finish, End}
 use Rattle.skip_decode.specs.Building.{Builder, built_on, document_of, fed, is_end, no_event}
 use Rattle.skip_decode.specs.Positions.{Numbers, Position, first_position}
-use Rattle.skip_decode.specs.StreamEvents.{StandsAtEvent, events_left, numbers_of, stream_events}
+use Rattle.skip_decode.specs.StreamEvents.{after_step, and_then, events_by, events_left, run}
 use Rattle.skip_decode.specs.StreamSteps.{Change, Stay, Open, Close, Step, levels_after, position_after, step_at}
 use Rattle.skip_decode.specs.Spots.{IsSpot}
 use Rattle.skip_decode.specs.declared.position.Level.{Level}
 use Rattle.skip_decode.specs.inside.LevelsInMemory.{HasRoom}
 use Rattle.skip_decode.specs.inside.Moves.{IsMove}
-use Rattle.skip_decode.specs.inside.Reading.{IsNamedStreamed, IsNext, AreOnWay, StandsNowhere}
-use Rattle.skip_decode.proofs.Built.{built-spelled}
-use Rattle.skip_decode.proofs.Documents.{few_so}
+use Rattle.skip_decode.specs.inside.Reading.{document_read}
 use Rattle.skip_decode.proofs.LevelLaws.{length-with_innermost}
-use Rattle.skip_decode.proofs.RootRuns.{stream_events-spell}
 use Rattle.skip_decode.proofs.SpotLaws.{spot-after, spot-falls}
-use Rattle.skip_decode.proofs.WalkLaws.{first-stands, some-step, step-stands}
 
 -- ---- a step
 
@@ -51,37 +45,7 @@ module _ (k : Numbers) (s new : Position) (step : Step) (event : Event) (spot : 
       (subst (λ (p : Position). Falls step.event (events_left k s) (events_left k p)) (sym moved)
       (spot-falls k s step spot move))
 
--- A step's event is the one at the position, and it leads to the next.
-pub step-next : (k : Numbers) (stream : List ℕ) (old new : Position) (step : Step) (event : Event)
-    → step_at k stream old ≡ Some step → new ≡ position_after old step → event ≡ step.event → IsNext k stream old event new
-step-next k stream old new step event there moved told = λ d i is stands.
-    let found : step_at (numbers_of d) (plain d) old ≡ Some step =
-    ap (λ n. step_at n (plain d) old) is.numbers ∙ ap (λ bytes. step_at k bytes old) is.bytes ∙ there in
-    let next = step-stands d is.document is.within old i step stands found in
-    subst (λ (e : Event). StandsAt (stream_events d) i e (place_after e i) × StandsAtEvent d new (place_after e i))
-    (sym told)
-    (next.0, subst (λ (p : Position). StandsAtEvent d p (place_after step.event i)) (sym moved) next.1)
-
--- Where there is no step, the position stands at no event.
-pub step-nowhere : (k : Numbers) (stream : List ℕ) (position : Position) → step_at k stream position ≡ None
-    → StandsNowhere k stream position
-step-nowhere k stream position none = λ d i is stands.
-    let step = some-step d is.document is.within position i stands in
-    none-some step.0
-    (sym none
-    ∙ sym (ap (λ n. step_at n (plain d) position) is.numbers ∙ ap (λ bytes. step_at k bytes position) is.bytes)
-    ∙ step.1)
-
 -- ---- events
-
--- the index after an event other than End
-goes-on : (event : Event) (i : ℕ) → is_end event ≡ false → place_after event i ≡ i + 1
-goes-on (Begin tag below) i other = refl
-goes-on (Attr piece) i other = refl
-goes-on HeadEnd i other = refl
-goes-on (Text piece) i other = refl
-goes-on (Finish tag) i other = refl
-goes-on End i other = cc
 
 -- an event other than End lowers the bound on the events to come
 pub falls-on : (event : Event) (old new : ℕ) → is_end event ≡ false → Falls event old new → new < old
@@ -92,67 +56,127 @@ falls-on (Text piece) old new other falls = falls
 falls-on (Finish tag) old new other falls = falls
 falls-on End old new other falls = cc
 
+-- after an event other than End the others follow
+pub goes-on : (event : Event) (rest : List Event) → is_end event ≡ false → and_then event rest ≡ event ∷ rest
+goes-on (Begin tag below) rest other = refl
+goes-on (Attr piece) rest other = refl
+goes-on HeadEnd rest other = refl
+goes-on (Text piece) rest other = refl
+goes-on (Finish tag) rest other = refl
+goes-on End rest other = cc
+
+-- after End none follow
+pub ends-there : (event : Event) (rest : List Event) → is_end event ≡ true → and_then event rest ≡ End ∷ []
+ends-there (Begin tag below) rest end = cc
+ends-there (Attr piece) rest end = cc
+ends-there HeadEnd rest end = cc
+ends-there (Text piece) rest end = cc
+ends-there (Finish tag) rest end = cc
+ends-there End rest end = refl
+
+-- ---- what the events build
+
+-- The builder has taken the events before the position: the whole stream builds what those from the position on build
+-- with it. There is fuel for all of these.
+pub record IsOnWay (names : List (List ℕ)) (k : Numbers) (stream : List ℕ) (position : Position)
+    (builder : Builder) : Type 0 where
+  pub fuel : ℕ
+  pub enough : events_left k position < fuel
+  pub builds : document_read names k stream ≡ built_on names (run k stream fuel position) builder
+
 -- before the first event
-pub way-first : (names : List (List ℕ)) (k : Numbers) (stream : List ℕ) (position : Position)
-    (builder : Builder)
-    → position ≡ first_position k → builder ≡ no_event → AreOnWay names k stream position builder
-way-first names k stream position builder at new = λ d is.
-    let first : StandsAtEvent d position 0 =
-    subst (λ (p : Position). StandsAtEvent d p 0) (ap first_position is.streamed.numbers ∙ sym at)
-    (first-stands d is.streamed.document is.streamed.within) in
-    record {
-      index = 0;
-      stands = first;
-      builds =
-          ap (λ b. built_on names (stream_events d) b) new
-          ∙ ap (λ ns. built_on ns (stream_events d) no_event) (sym is.named)
-          ∙ built-spelled (dictionary d) (Some d) (stream_events d) (few_so d is.streamed.within)
-          (stream_events-spell d is.streamed.document is.streamed.within);
+pub way-first : (names : List (List ℕ)) (k : Numbers) (stream : List ℕ) (position : Position) (builder : Builder)
+    → position ≡ first_position k → builder ≡ no_event → IsOnWay names k stream position builder
+way-first names k stream position builder at new = record {
+  fuel = events_left k position + 1;
+  enough = omega arith;
+  builds =
+      ap (λ p. built_on names (run k stream (events_left k p + 1) p) no_event) (sym at)
+      ∙ ap (λ b. built_on names (run k stream (events_left k position + 1) position) b) (sym new);
+}
+
+module _ (names : List (List ℕ)) (k : Numbers) (stream : List ℕ) (old new : Position) (builder : Builder) where
+  -- the position has no step
+  abbrev stuck : Option Step → Type 0
+  stuck o = option_map (λ (step : Step). step.event) o ≡ None
+
+  run-stuck : (n : ℕ) (o : Option Step) → step_at k stream old ≡ o → stuck o → run k stream n old ≡ []
+  unfolding run
+  run-stuck zero o is none = refl
+  run-stuck (suc n) None is none = ap (events_by (run k stream n) old) is
+  run-stuck (suc n) (Some step) is none = absurd (none-some step.event (sym none))
+
+  -- where there is no step, the stream builds no document
+  pub way-stuck : IsOnWay names k stream old builder → stuck (step_at k stream old)
+      → document_read names k stream ≡ None
+  way-stuck way none =
+      way.builds ∙ ap (λ l. built_on names l builder) (run-stuck way.fuel (step_at k stream old) refl none)
+
+  module _ (event : Event) (told : Some event ≡ option_map (λ (step : Step). step.event) (step_at k stream old))
+      (moved : new ≡ after_step old (step_at k stream old)) where
+    -- The events from the position on are this one and those after it.
+    run-on : (n : ℕ) (o : Option Step) → step_at k stream old ≡ o
+        → Some event ≡ option_map (λ (step : Step). step.event) o → new ≡ after_step old o
+        → run k stream (suc n) old ≡ and_then event (run k stream n new)
+    unfolding run
+    run-on n None is some there = absurd (none-some event (sym some))
+    run-on n (Some step) is some there =
+        ap (events_by (run k stream n) old) is
+        ∙ ap (λ e. and_then e (run k stream n (position_after old step))) (sym (same_Some event step.event some))
+        ∙ ap (λ p. and_then event (run k stream n p)) (sym there)
+
+    -- what the events from the position on build
+    abbrev here : ℕ → Option Doc
+    here n = built_on names (and_then event (run k stream n new)) builder
+
+    -- The whole stream builds this, with less fuel.
+    record Onward : Type 0 where
+      fuel : ℕ
+      enough : events_left k old ≤ fuel
+      builds : document_read names k stream ≡ here fuel
+
+    onward : (fuel : ℕ) → events_left k old < fuel
+        → document_read names k stream ≡ built_on names (run k stream fuel old) builder → Onward
+    onward zero enough builds = absurd (omega (arith, enough))
+    onward (suc n) enough builds = record {
+      fuel = n;
+      enough = omega (arith, enough);
+      builds = builds ∙ ap (λ l. built_on names l builder) (run-on n (step_at k stream old) refl told moved);
     }
 
-module _ (names : List (List ℕ)) (k : Numbers) (stream : List ℕ) (old new : Position) (builder : Builder)
-    (event : Event) (on : AreOnWay names k stream old builder) (next : IsNext k stream old event new) where
-  -- the document that the builder gives after this event
-  abbrev after_this : (d : Doc) → IsNamedStreamed d names k stream → Option Doc
-  after_this d is =
-      option_and_then (built_on names (drop ((on d is).index + 1) (stream_events d))) (fed names event builder)
+    -- at End the document is whole
+    pub way-end : IsOnWay names k stream old builder → is_end event ≡ true
+        → document_read names k stream ≡ document_of builder
+    way-end way end =
+        let on = onward way.fuel way.enough way.builds in
+        on.builds ∙ ap (λ l. built_on names l builder) (ends-there event (run k stream on.fuel new) end)
 
-  -- the builder takes this event, and then those after it
-  taken : (d : Doc) (is : IsNamedStreamed d names k stream)
-      → cond (is_end event) (document_of builder) (after_this d is) ≡ Some d
-  taken d is =
-      let way = on d is in
-      let here = next d way.index is.streamed way.stands in
-      ap (λ events. built_on names events builder) (sym here.0.there) ∙ way.builds
+    -- after an event other than End
+    feeds : (n : ℕ) → is_end event ≡ false
+        → here n ≡ option_and_then (built_on names (run k stream n new)) (fed names event builder)
+    feeds n other =
+        ap (λ l. built_on names l builder) (goes-on event (run k stream n new) other)
+        ∙ ap (λ b. cond b (document_of builder) (option_and_then (built_on names (run k stream n new))
+        (fed names event builder))) other
 
-  -- after End the document is whole
-  pub way-end : is_end event ≡ true → (d : Doc) → IsNamedStreamed d names k stream → document_of builder ≡ Some d
-  way-end end d is =
-      ap (λ b. cond b (document_of builder) (after_this d is)) (sym end) ∙ taken d is
+    -- an event that doesn't fit builds no document
+    pub way-unfit : IsOnWay names k stream old builder → is_end event ≡ false → fed names event builder ≡ None
+        → document_read names k stream ≡ None
+    way-unfit way other none =
+        let on = onward way.fuel way.enough way.builds in
+        on.builds ∙ feeds on.fuel other ∙ ap (option_and_then (built_on names (run k stream on.fuel new))) none
 
-  taken-on : is_end event ≡ false → (d : Doc) (is : IsNamedStreamed d names k stream)
-      → after_this d is ≡ Some d
-  taken-on other d is =
-      ap (λ b. cond b (document_of builder) (after_this d is)) (sym other) ∙ taken d is
-
-  -- each event of a document fits
-  pub way-fits : is_end event ≡ false → fed names event builder ≡ None
-      → (d : Doc) → IsNamedStreamed d names k stream → ⊥
-  way-fits other none d is =
-      none-some d
-      (ap (λ o. option_and_then (built_on names (drop ((on d is).index + 1) (stream_events d))) o) (sym none)
-      ∙ taken-on other d is)
-
-  -- after an event other than End
-  pub way-on : (after : Builder) → is_end event ≡ false → fed names event builder ≡ Some after
-      → AreOnWay names k stream new after
-  way-on after other some = λ d is.
-      let way = on d is in
-      let here = next d way.index is.streamed way.stands in
-      record {
-        index = way.index + 1;
-        stands = subst (λ (i : ℕ). StandsAtEvent d new i) (goes-on event way.index other) here.1;
-        builds =
-            ap (λ o. option_and_then (built_on names (drop (way.index + 1) (stream_events d))) o) (sym some)
-            ∙ taken-on other d is;
-      }
+    -- the builder takes the event
+    pub way-on : (after : Builder) → IsOnWay names k stream old builder → is_end event ≡ false
+        → Falls event (events_left k old) (events_left k new) → fed names event builder ≡ Some after
+        → IsOnWay names k stream new after
+    way-on after way other falls some =
+        let on = onward way.fuel way.enough way.builds in
+        let less = falls-on event (events_left k old) (events_left k new) other falls in
+        let least = on.enough in
+        record {
+          fuel = on.fuel;
+          enough = omega (arith, less, least);
+          builds = on.builds ∙ feeds on.fuel other
+              ∙ ap (option_and_then (built_on names (run k stream on.fuel new))) some;
+        }

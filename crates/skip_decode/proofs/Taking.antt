@@ -4,7 +4,7 @@ use Rattle.std.proofs.lemmas.Bool.Decides.{nat_tests}
 use Rattle.acl_bits.specs.FilledBits.{bits_of_bytes, number_of, number_after, first_bytes, bytes_of, bits_of, filled_bits, has_bit}
 use Rattle.acl_bits.proofs.BitStrings.{bits_of_bytes-bytes_of, number_of-bits_of, length-bits_of}
 use Rattle.acl_model.specs.StreamBits as model
-use Rattle.skip_decode.specs.inside.TreeReading.{take_bits}
+use Rattle.skip_decode.specs.inside.HeadReading.{take_bits}
 
 -- There are enough elements for a prefix of the list.
 enough : {A : Type 0} (n : ℕ) (prefix back : List A) → length prefix ≡ n → nat_le n (length (prefix ++ back)) ≡ true

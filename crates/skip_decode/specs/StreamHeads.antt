@@ -6,7 +6,7 @@ use Rattle.std.specs.Option.{option_and_then, option_map}
 use Rattle.acl_bits.specs.FilledBits.{number_of, bits_of_bytes}
 use Rattle.acl_model.specs.Width.{binary_length}
 use Rattle.skip_decode.specs.declared.head.Head.{Head}
-use Rattle.skip_decode.specs.inside.TreeReading.{take_bits, head_bytes, take_head_on}
+use Rattle.skip_decode.specs.inside.HeadReading.{take_bits, head_bytes, take_head_on}
 
 -- the first n bytes, where a content still has so many: `left` is the number of its bytes that are left
 unfoldable pub take_within : ℕ → ℕ → List ℕ → Option (List ℕ)

@@ -3,7 +3,6 @@
 use Rattle.std.specs.Prelude.{◌≡◌, ℕ, true, List, length}
 use Rattle.merkle_chunks.specs.declared.header.Header.{Header}
 use Rattle.acl_model.specs.declared.document.Doc.{Doc}
-use Rattle.skip_encode.specs.declared.plain.Plain.{Plain}
 use Rattle.acl_model.specs.Document.{is_document}
 use Rattle.acl_model.specs.Dictionary.{dictionary, dictionary_section}
 use Rattle.acl_model.specs.Stream.{has_stream, plain, tree_section, depth}
@@ -18,11 +17,3 @@ pub record IsStreamOf (d : Doc) (stream : List ℕ) (header : Header) : Type 0 w
   pub tags : header.tags ≡ length (dictionary d)
   pub dictionary : header.dictionary ≡ length (dictionary_section (dictionary d))
   pub depth : header.depth ≡ depth d
-
--- The encoder's answer has these bytes, and its numbers are those of the header.
-pub record HasNumbers (written : Plain) (stream : List ℕ) (header : Header) : Type 0 where
-  pub bytes : written.bytes ≡ stream
-  pub tree : written.tree ≡ header.tree
-  pub dictionary : written.dictionary ≡ header.dictionary
-  pub tags : written.tags ≡ header.tags
-  pub depth : written.depth ≡ header.depth

@@ -13,7 +13,7 @@ use Rattle.skip_decode.specs.declared.head.Head.{Head}
 use Rattle.skip_decode.specs.declared.position.Level.{Level}
 use Rattle.skip_decode.specs.declared.position.Next.{Next}
 use Rattle.skip_decode.specs.declared.position.Next.TheVariants.{Root, Count, Attributes, Attribute, Item, Text, Finish, End}
-use Rattle.skip_decode.specs.inside.TreeReading.{head_bytes}
+use Rattle.skip_decode.specs.inside.HeadReading.{head_bytes}
 pub use Rattle.skip_decode.specs.declared.step.Step.{Step}
 pub use Rattle.skip_decode.specs.declared.step.Change.{Change}
 pub use Rattle.skip_decode.specs.declared.step.Change.TheVariants.{Stay, Open, Close}

@@ -1,5 +1,6 @@
 pub mod CheckedLaws
 pub mod FileWalkLaws
+pub mod HeadReading
 pub mod LevelsInMemory
 pub mod MemoryLaws
 pub mod Moves
@@ -9,5 +10,4 @@ pub mod SmallStreams
 pub mod StartFaults
 pub mod StoreLaws
 pub mod StraightLaws
-pub mod TreeReading
 pub mod Windows

@@ -1,45 +1,28 @@
-//! The inverse of `plain_stream`. The events of the walk build a document, and the encoder writes it again. The
-//! document is accepted only where this gives the same bytes and numbers. So a document has at most one accepted
-//! encoding.
+//! The inverse of `plain_stream`. The steps of the walk read the bytes, and the events build a document. The steps take
+//! only what the encoder writes for some tree. So it is enough to test the fill, and the form, the dictionary and the
+//! depth of the document.
 
-ghost use Rattle.std.specs.Prelude.{◌≡◌, ◌↔◌, Err, IfOk, IsTrue};
+ghost use Rattle.std.specs.Prelude.{◌≡◌, ◌↔◌, ◌≤◌, ◌%◌, Err, IfOk, IsTrue, length, nat_eq};
+ghost use Rattle.std.specs.List.{list_all};
+ghost use Rattle.acl_model.specs.Limits.{most_names};
 ghost use Rattle.acl_model.specs.declared.document.Doc.{Doc};
-ghost use Rattle.skip_decode.specs.StreamOf.{IsStreamOf, HasNumbers};
-ghost use Rattle.skip_decode.specs.inside.Reading.{IsFormed};
+ghost use Rattle.skip_decode.specs.StreamOf.{IsStreamOf};
+ghost use Rattle.skip_decode.specs.inside.Reading.{IsFilled, IsFormed, IsOfDictionary};
 
+use crate::height::has_levels;
 use crate::position::Numbers;
 use crate::reading::read_events;
 use crate::window::FRAGMENT;
 use acl_model::limits::{MOST_NAMES, MOST_OPEN_ELEMENTS, MOST_STREAM_BYTES};
-use acl_model::{Doc, is_document};
+use acl_model::{Doc, Name, is_document};
 use merkle_chunks::Header;
-use skip_encode::{EncodeFault, Plain, plain_stream};
-use std::alloc::Global;
-use tag_dictionary::{DictFault, Dictionary};
+use std::alloc::{AllocError, Global};
+use tag_dictionary::{DictFault, Dictionary, TagFault};
 
 /// Returns the document of a plain stream and the numbers of its header. The answer is `BadIndex` only where no
 /// document has this stream and these numbers.
 pub fn decode_all(alloc: Global, plain: &[u8], header: &Header) -> Result<Doc, DictFault>
     ensures document { IfOk result (λ d. IsStreamOf d plain.now header.now) }
-    ensures bad { result ≡ Err DictFault.BadIndex
-        → (d : Doc) → ¬ IsStreamOf d plain.now header.now }
-{
-    let doc = read_doc(alloc, plain, header)?;
-    if !is_document(&doc) {
-        return Err(DictFault::BadIndex);
-    }
-    match plain_stream(alloc, &doc) {
-        Ok(written) if is_same(&written, plain, header) => Ok(doc),
-        Err(EncodeFault::NoMemory) => Err(DictFault::NoMemory),
-        Ok(_) | Err(EncodeFault::TooManyTags | EncodeFault::TooLarge) => Err(DictFault::BadIndex),
-    }
-}
-
-/// Reads a document by the events of the walk. The stream of a document is read as that document. Other bytes may be
-/// read as some document too.
-fn read_doc(alloc: Global, plain: &[u8], header: &Header) -> Result<Doc, DictFault>
-    ensures one { IfOk result (λ read.
-        (d : Doc) → IsStreamOf d plain.now header.now → read ≡ d) }
     ensures bad { result ≡ Err DictFault.BadIndex
         → (d : Doc) → ¬ IsStreamOf d plain.now header.now }
 {
@@ -56,7 +39,11 @@ fn read_doc(alloc: Global, plain: &[u8], header: &Header) -> Result<Doc, DictFau
         names: header.tags,
         depth: header.depth,
     };
-    read_events(alloc, &names, &numbers, plain)
+    let doc = read_events(alloc, &names, &numbers, plain)?;
+    if !is_of_dictionary(alloc, &doc, &names, header.depth)? {
+        return Err(DictFault::BadIndex);
+    }
+    Ok(doc)
 }
 
 /// Whether the bytes and the header may be those of a document.
@@ -70,15 +57,57 @@ fn is_formed(plain: &[u8], header: &Header) -> bool
         && header.depth <= MOST_OPEN_ELEMENTS
         && header.tree <= long
         && u64::from(header.dictionary) + header.tree <= long
+        && is_filled(plain, (u64::from(header.dictionary) + header.tree) as usize)
 }
 
-/// Whether the encoder's answer has these bytes and the numbers of this header.
-fn is_same(written: &Plain, plain: &[u8], header: &Header) -> bool
-    ensures { IsTrue result ↔ HasNumbers written.now plain.now header.now }
+/// Whether the bytes after the first `count` are the zeros that fill the last fragment.
+fn is_filled(plain: &[u8], count: usize) -> bool
+    requires whole { length plain.now % 256 ≡ 0 }
+    requires within { count ≤ length plain.now }
+    ensures { IsTrue result ↔ IsFilled plain.now count }
 {
-    written.tree == header.tree
-        && written.dictionary == header.dictionary
-        && written.tags == header.tags
-        && written.depth == header.depth
-        && written.bytes.as_slice() == plain
+    let fill = &plain[count..];
+    fill.len() < FRAGMENT as usize && are_zero(fill)
+}
+
+/// Whether all of the bytes are zero.
+fn are_zero(bytes: &[u8]) -> bool
+    ensures { result ≡ list_all (λ b. nat_eq b 0) bytes.now }
+{
+    bytes.iter().all(|byte| *byte == 0)
+}
+
+/// Whether a document is valid, has this dictionary, and has at least so many levels. The steps let it have no more.
+fn is_of_dictionary(
+    alloc: Global,
+    doc: &Doc,
+    names: &Dictionary,
+    levels: u16,
+) -> Result<bool, AllocError>
+    requires few { length names.now ≤ most_names }
+    ensures { IfOk result (λ of. IsTrue of ↔ IsOfDictionary doc.now names.now levels) }
+{
+    if !is_document(doc) || !has_levels(&doc.root, levels) {
+        return Ok(false);
+    }
+    match Dictionary::of_doc(alloc, doc) {
+        Ok(own) => Ok(are_same(own.names(), names.names())),
+        Err(TagFault::TooManyTags) => Ok(false),
+        Err(TagFault::NoMemory) => Err(AllocError),
+    }
+}
+
+/// Whether the two lists have the same names in the same order.
+fn are_same(some: &[Name], others: &[Name]) -> bool
+    ensures { IsTrue result ↔ (some.now ≡ others.now) }
+{
+    if some.len() != others.len() {
+        return false;
+    }
+    for index in 0..some.len() {
+        if some[index].as_slice() != others[index].as_slice() {
+            return false;
+        }
+    }
+    true
 }

@@ -2,7 +2,7 @@
 
 ghost use Rattle.std.specs.Prelude.{◌≡◌, ◌+◌, ◌-◌, ◌<◌, ◌≤◌, ◌^◌, [], None, Some, MatchOption, IfSome, slice_get, length};
 ghost use Rattle.acl_model.specs.Width.{binary_length};
-ghost use Rattle.skip_decode.specs.inside.TreeReading.{take_bits, take_members, take_below, head_bytes, take_head_on};
+ghost use Rattle.skip_decode.specs.inside.HeadReading.{take_bits, take_members, take_below, head_bytes, take_head_on};
 
 use acl_bits::{BitIn, Row};
 
@@ -20,7 +20,7 @@ pub(crate) struct Head {
 }
 
 /// The number whose binary digits are the next `n` bits, the most significant first.
-#[tactic(auto, unfolding(crate::specs::inside::TreeReading::take_bits))]
+#[tactic(auto, unfolding(crate::specs::inside::HeadReading::take_bits))]
 pub(crate) fn take_bits(bits: &mut BitIn<'_>, n: u32) -> Option<u32>
     requires { n ≤ 32 }
     ensures { MatchOption result
@@ -47,7 +47,7 @@ pub(crate) fn binary_length(n: usize) -> u32
 }
 
 /// Reads the bits of a head after the first. The parent has these members, and writes lengths in `width` bits.
-#[tactic(auto, unfolding(crate::specs::inside::TreeReading::take_head_on))]
+#[tactic(auto, unfolding(crate::specs::inside::HeadReading::take_head_on))]
 pub(crate) fn take_head(bits: &mut BitIn<'_>, members: &Row, width: u32) -> Option<Head>
     requires { width ≤ 32 }
     ensures { MatchOption result
@@ -80,7 +80,7 @@ fn member(members: &Row, number: u32) -> Option<u16>
 }
 
 /// Reads the tag set of an element where `inner` is 1. Else the set is empty.
-#[tactic(auto, unfolding(crate::specs::inside::TreeReading::take_below, crate::specs::inside::TreeReading::not_empty))]
+#[tactic(auto, unfolding(crate::specs::inside::HeadReading::take_below, crate::specs::inside::HeadReading::not_empty))]
 fn take_below(bits: &mut BitIn<'_>, members: &Row, inner: u32) -> Option<Row>
     ensures { MatchOption result
         (take_below members.now inner bits.old ≡ None)

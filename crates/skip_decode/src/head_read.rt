@@ -7,7 +7,7 @@ ghost use Rattle.acl_bits.specs.FilledBits.{number_of};
 ghost use Rattle.skip_decode.specs.Fragments.{ForEach, FitsNone, Leads, Narrows, Refuses};
 ghost use Rattle.skip_decode.specs.inside.Moves.{IsHeadIn};
 ghost use Rattle.skip_decode.specs.inside.Windows.{AfterReads, HasRead, HasReadSome, IsHeld};
-ghost use Rattle.skip_decode.specs.inside.TreeReading.{head_bytes};
+ghost use Rattle.skip_decode.specs.inside.HeadReading.{head_bytes};
 ghost use Rattle.skip_decode.specs.StreamHeads.{take_within, number_width, inner_bit, inner_at, whole_head, head_at};
 
 use crate::fragments::Fragments;

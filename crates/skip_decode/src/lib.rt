@@ -9,6 +9,7 @@ mod decode;
 mod fragments;
 mod head;
 mod head_read;
+mod height;
 mod laws;
 mod levels;
 mod memory;

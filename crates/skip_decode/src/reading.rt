@@ -1,13 +1,14 @@
 //! Reads a document from its stream in memory: the events of the walk build it.
 
-ghost use Rattle.std.specs.Prelude.{◌≡◌, ◌≤◌, ◌%◌, ℕ, Err, List, IfOk, OnOk, length};
+ghost use Rattle.std.specs.Prelude.{◌≡◌, ◌≤◌, ◌%◌, None, Some, Err, List, ℕ, IfOk, IfSome, length};
+ghost use Rattle.std.specs.Option.{option_map};
 ghost use Rattle.acl_model.specs.Limits.{most_names, most_open_elements, most_stream_bytes};
-ghost use Rattle.acl_model.specs.declared.document.Doc.{Doc};
 ghost use Rattle.acl_walk.specs.SpotMoves.{Falls};
 ghost use Rattle.skip_decode.specs.Positions.{tree_end};
 ghost use Rattle.skip_decode.specs.Spots.{IsSpot};
-ghost use Rattle.skip_decode.specs.StreamEvents.{events_left};
-ghost use Rattle.skip_decode.specs.inside.Reading.{IsNamedStreamed, IsNext, StandsNowhere};
+ghost use Rattle.skip_decode.specs.StreamEvents.{after_step, events_left};
+ghost use Rattle.skip_decode.specs.StreamSteps.{Step, step_at};
+ghost use Rattle.skip_decode.specs.inside.Reading.{document_read};
 ghost use Rattle.skip_decode.specs.inside.Windows.{IsHeld};
 
 use crate::building::{Builder, is_end};
@@ -17,17 +18,17 @@ use crate::spot::SkipSpot;
 use crate::stepping::checked_step;
 use crate::window::Window;
 use acl_model::Doc;
-use acl_outside::ReadFault;
 use acl_walk::Event;
 use std::alloc::Global;
 use tag_dictionary::{DictFault, Dictionary};
 
-/// Makes a step and returns its event. Memory refuses no fetch, so that an error says that there is no step.
+/// Makes a step and returns its event, or `None` where there is no step. Memory refuses no fetch, so an error says the
+/// latter.
 fn next_event(
     window: &mut Window<Memory<'_>>,
     numbers: &Numbers,
     spot: &mut SkipSpot,
-) -> Result<Event, DictFault>
+) -> Option<Event>
     requires names { numbers.now.names ≤ most_names }
     requires deep { numbers.now.depth ≤ most_open_elements }
     requires spot { IsSpot numbers.now spot.old }
@@ -37,22 +38,21 @@ fn next_event(
     ensures source { window.new.source ≡ window.old.source }
     ensures held { IsHeld (λ (stream : List ℕ). stream ≡ window.new.source.bytes.now)
         window.new.held window.new.at }
-    ensures spot { OnOk result (IsSpot numbers.now spot.new) }
-    ensures falls { IfOk result (λ event.
+    ensures event { result
+        ≡ option_map (λ (step : Step). step.event) (step_at numbers.now window.old.source.bytes.now spot.old) }
+    ensures moved { spot.new
+        ≡ after_step spot.old (step_at numbers.now window.old.source.bytes.now spot.old) }
+    ensures spot { IfSome result (λ event. IsSpot numbers.now spot.new) }
+    ensures falls { IfSome result (λ event.
         Falls event (events_left numbers.now spot.old) (events_left numbers.now spot.new)) }
-    ensures event { IfOk result (λ event.
-        IsNext numbers.now window.old.source.bytes.now spot.old event spot.new) }
-    ensures bad { result ≡ Err DictFault.BadIndex
-        → StandsNowhere numbers.now window.old.source.bytes.now spot.old }
 {
     match checked_step(window, numbers, &*spot) {
-        Ok(step) => Ok(spot.apply(step)),
-        Err(ReadFault::BadIndex) => Err(DictFault::BadIndex),
-        Err(_) => Err(DictFault::NoMemory),
+        Ok(step) => Some(spot.apply(step)),
+        Err(_) => None,
     }
 }
 
-/// Reads the document with these names and numbers whose stream has these bytes.
+/// Reads the document that the events of these bytes build. `BadIndex` comes only where they build none.
 pub(crate) fn read_events(
     alloc: Global,
     names: &Dictionary,
@@ -60,24 +60,22 @@ pub(crate) fn read_events(
     stream: &[u8],
 ) -> Result<Doc, DictFault>
     requires names { numbers.now.names ≤ most_names }
-    requires named { length names.now ≤ most_names }
     requires deep { numbers.now.depth ≤ most_open_elements }
     requires whole { length stream.now % 256 ≡ 0 }
     requires few { length stream.now ≤ most_stream_bytes }
     requires within { tree_end numbers.now ≤ length stream.now }
-    ensures one { IfOk result (λ read.
-        (d : Doc) → IsNamedStreamed d names.now numbers.now stream.now → read ≡ d) }
+    ensures document { IfOk result (λ d. document_read names.now numbers.now stream.now ≡ Some d) }
     ensures bad { result ≡ Err DictFault.BadIndex
-        → (d : Doc) → ¬ IsNamedStreamed d names.now numbers.now stream.now }
+        → document_read names.now numbers.now stream.now ≡ None }
 {
     let mut window = Window::over(Memory::new(stream));
     let mut spot = SkipSpot::new(alloc, numbers.dictionary)?;
     let mut builder = Builder::new(alloc);
-    'events: loop {
-        let event = next_event(&mut window, numbers, &mut spot)?;
+    while let Some(event) = next_event(&mut window, numbers, &mut spot) {
         if is_end(&event) {
             return builder.finish();
         }
         builder.feed(alloc, names, &event)?;
     }
+    Err(DictFault::BadIndex)
 }

@@ -188,6 +188,10 @@ fn a_changed_stream_is_refused_or_is_another_document(rt: HostRuntime) -> Result
     let tree = b"\x97\xb0\0\x01\0\0\0\x0aId CDATA x\x87\0\0\0\0\0\x011\xc2\0\0".as_slice();
     let stream = filled(rt.alloc(), section, tree)?;
     let header = header(section, tree, 3, 2);
+    let mut longer = Vec::from_slice(rt.alloc(), stream.as_slice())?;
+    longer.resize(512, 0)?;
+    let fault = decode_all(rt.alloc(), longer.as_slice(), &header).err();
+    assert_eq!(rt; fault, Some(DictFault::BadIndex), "a fragment too many");
     for place in 0..256 {
         let cut = stream.as_slice().get(..place).unwrap_or(&[]);
         let fault = decode_all(rt.alloc(), cut, &header).err();

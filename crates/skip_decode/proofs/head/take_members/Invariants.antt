@@ -1,6 +1,6 @@
 -- Reading the members left from the bits left, into the set so far, gives the result of the whole read.
 use Rattle.std.proofs.Common.{◌≡◌, [], length}
-use Rattle.skip_decode.specs.inside.TreeReading.{take_members}
+use Rattle.skip_decode.specs.inside.HeadReading.{take_members}
 use Rattle.skip_decode.proofs.head.take_members.Given as goal
 
 abbrev pub invariant-loop-number : goal.invariant-loop-number

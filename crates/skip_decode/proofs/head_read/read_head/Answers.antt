@@ -1,7 +1,7 @@
 -- A set has at most 256 members, and the numbers in a head at most 32 bits each.
 use Rattle.std.proofs.Common.{◌≡◌, ℕ, ◌+◌, ◌/◌, ◌≤◌, Some, length, take, arith, rules}
 use Rattle.skip_decode.specs.StreamHeads.{inner_bit, number_width}
-use Rattle.skip_decode.specs.inside.TreeReading.{head_bytes}
+use Rattle.skip_decode.specs.inside.HeadReading.{head_bytes}
 use Rattle.skip_decode.specs.inside.Windows.{HasRead}
 use Rattle.skip_decode.proofs.HeadBits.{few_members, few_head_bytes}
 use Rattle.skip_decode.proofs.HeadSizes.{read-to}

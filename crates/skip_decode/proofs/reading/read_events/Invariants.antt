@@ -1,18 +1,18 @@
 use Rattle.std.proofs.Common.{◌≡◌, List, ℕ}
 use Rattle.skip_decode.specs.Spots.{IsSpot}
 use Rattle.skip_decode.specs.StreamEvents.{events_left}
-use Rattle.skip_decode.specs.inside.Reading.{AreOnWay}
 use Rattle.skip_decode.specs.inside.Windows.{IsHeld}
+use Rattle.skip_decode.proofs.StreamReading.{IsOnWay}
 use Rattle.skip_decode.proofs.reading.read_events.Given as goal
 
--- The spot stands at an event of each document that has the stream, and the events from it on build the document.
-abbrev pub invariant-events : goal.invariant-events
-invariant-events l = record {
+-- The events from the spot on build with the builder what the whole stream builds.
+abbrev pub invariant-loop-event : goal.invariant-loop-event
+invariant-loop-event l = record {
   bytes : l.window.source.bytes.now ≡ l.stream;
   held : IsHeld (λ (stream : List ℕ). stream ≡ l.window.source.bytes.now) l.window.held l.window.at;
   spot : IsSpot l.numbers l.spot;
-  way : AreOnWay l.names l.numbers l.stream l.spot l.builder;
+  way : IsOnWay l.names l.numbers l.stream l.spot l.builder;
 }
 
-abbrev pub decreases-events : goal.decreases-events
-decreases-events l = events_left l.numbers l.spot
+abbrev pub decreases-loop-event : goal.decreases-loop-event
+decreases-loop-event l = events_left l.numbers l.spot
