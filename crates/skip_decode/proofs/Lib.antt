@@ -50,6 +50,7 @@ pub mod SmallStreams
 pub mod SpotHeads
 pub mod SpotLaws
 pub mod Starts
+pub mod StepBounds
 pub mod StepKinds
 pub mod StraightSteps
 pub mod StreamForms

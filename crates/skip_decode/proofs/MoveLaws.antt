@@ -1,6 +1,6 @@
 -- What the steps of the definitions do, whatever bytes are read.
 use Rattle.std.proofs.Common.{◌≡◌, ℕ, ◌+◌, ◌-◌, ◌<◌, ◌≤◌, Bool, true, false, cond, nat_le, nat_eq, Option, Some, None, List, refl, ap, sym, ◌∙◌, subst, arith}
-use Rattle.std.specs.Prelude.{IfOk, IfSome, Result, Ok, Err}
+use Rattle.std.specs.Prelude.{IfOk, IfSome, OnErr, Result, Ok, Err}
 use Rattle.std.specs.Cmp.Lexicographic.{pointwise}
 use Rattle.std.proofs.lemmas.Bool.Decides.{nat_tests}
 use Rattle.acl_bits.specs.declared.piece.Piece.{Piece}
@@ -32,6 +32,16 @@ both-so (Some x) so one two = so x one two
 pub ok-so : {A E : Type 0} {P Q : A → Type 0} (r : Result A E) → ((x : A) → P x → Q x) → IfOk r P → IfOk r Q
 ok-so (Ok x) so held = so x held
 ok-so (Err e) so held = tt
+
+-- what is true is true after a refusal
+pub err-any : {A E P : Type 0} (r : Result A E) → P → OnErr r P
+err-any (Ok x) held = tt
+err-any (Err e) held = held
+
+-- what is true after a refusal is true with what follows from it
+pub err-so : {A E P Q : Type 0} (r : Result A E) → (P → Q) → OnErr r P → OnErr r Q
+err-so (Ok x) so held = tt
+err-so (Err e) so held = so held
 
 -- ---- pieces
 

@@ -1,22 +1,31 @@
 -- A step opens only fragments that have a byte of its event.
 use Rattle.std.proofs.Common.{◌≡◌, ℕ, zero, suc, ◌+◌, ◌-◌, ◌/◌, ◌<◌, ◌≤◌, true, false, cond, ◌||◌, nat_eq, Option, None, Some, List, [], ◌∷◌, length, drop, refl, ap, sym, ◌∙◌, subst, arith}
+use Rattle.std.specs.Prelude.{IfSome}
 use Rattle.std.specs.Option.{option_and_then, option_map}
 use Rattle.std.specs.Cmp.Lexicographic.{pointwise}
 use Rattle.std.proofs.lemmas.Bool.Decides.{nat_tests}
 use Rattle.std.proofs.lemmas.Option.{same_Some}
 use Rattle.acl_model.specs.Stream.{plain}
 use Rattle.acl_model.specs.declared.document.Doc.{Doc}
+use Rattle.acl_outside.specs.declared.read_fault.ReadFault.{ReadFault}
 use Rattle.acl_walk.specs.Following.{Places, Only}
-use Rattle.skip_decode.specs.FileWalk.{FileMoment, IsFileOrigin, IsFilePlace, is_sound_at, numbers_in, place_of}
-use Rattle.skip_decode.specs.CheckedStream.{opened_since}
+use Rattle.fragment_open.specs.Sound.{sound_for}
+use Rattle.fragment_open.specs.declared.head.Head.{Head}
+use Rattle.skip_decode.specs.FileWalk.{FileMoment, IsFileOrigin, IsFilePlace, is_sound_at}
+use Rattle.skip_decode.specs.FileWalk.{moment_of, numbers_in, place_of}
+use Rattle.skip_decode.specs.CheckedStream.{Fetched, IsSoundStream, opened_since}
+use Rattle.skip_decode.specs.Fragments.{ForEach}
 use Rattle.skip_decode.specs.OpensOf.{HasByteWithin, OpensFor, OpensOnlyTold, offset_of}
 use Rattle.skip_decode.specs.Positions.{Numbers, Position}
+use Rattle.skip_decode.specs.StoreWent.{StoreMoment}
 use Rattle.skip_decode.specs.StreamEvents.{IsAt, StandsAtEvent, after_step, numbers_of, position_at}
 use Rattle.skip_decode.specs.StreamSteps.{Step, checked_finish, finish_step, step_at, item_by, item_step}
 use Rattle.skip_decode.specs.StreamHeads.{take_within}
 use Rattle.skip_decode.specs.declared.position.Level.{Level}
 use Rattle.skip_decode.specs.declared.position.Next.TheVariants.{Item, Finish}
-use Rattle.skip_decode.specs.inside.Windows.{HasRead, fragments_over, touched}
+use Rattle.skip_decode.specs.inside.Windows.{HasRead, HasReadWithin, fragments_over, touched}
+use Rattle.skip_decode.proofs.FileSteps.{plain-may_be, was-origin}
+use Rattle.skip_decode.proofs.FileWalkLaws.{file-some_step}
 use Rattle.skip_decode.proofs.StepKinds.{cond_some}
 use Rattle.skip_decode.proofs.StraightSteps.{behind-so, touched-so}
 
@@ -72,7 +81,7 @@ module _ (d : Doc) (position : Position) (i : ℕ) (stands : StandsAtEvent d pos
   -- ---- fragments
 
   module _ (step : Step) (is : step_at (numbers_of d) (plain d) position ≡ Some step) (ps : Places) (passes : ps i ≡ true)
-      (count : ℕ) (ends : position.place + count ≡ step.place) where
+      (count : ℕ) (ends : position.place + count ≤ step.place) where
     has-byte : (fragment : ℕ) → position.place / 256 ≤ fragment → fragment < position.place / 256 + fragments_over position.place count
         → HasByteWithin d ps fragment
     has-byte fragment low high = by count refl high
@@ -107,20 +116,46 @@ pub opens-step : (w v : FileMoment) (position : Position) (step : Step) (at : Op
     → (IsFileOrigin w.fixed d → ps (place_of d position) ≡ true)
     → HasRead (opened_since w.served) position.place step.place at (opened_since v.served)
     → OpensFor w (Some d) ps v
-opens-step w v position step at d ps same found passes has = λ quiet origin sound.
+opens-step w v position step at d ps same found passes has = λ origin sound.
     let was : IsFileOrigin w.fixed d = subst (λ k. IsFileOrigin k d) same origin in
     let here = found was sound in
     let numbers : numbers_of d ≡ numbers_in w.fixed.header = ap numbers_in was.0.header_is in
     let rises = has.rises in
-    let ends : position.place + (step.place - position.place) ≡ step.place = omega (arith, rises) in
+    let ends : position.place + (step.place - position.place) ≤ step.place = omega (arith, rises) in
     subst (λ (o : Option (List ℕ)). OpensOnlyTold (HasByteWithin d ps) (opened_since w.served) o) (sym has.opens)
     (opened-of d position (place_of d position) here.0 step (ap (λ n. step_at n (plain d) position) numbers ∙ here.1) ps (passes was)
     (step.place - position.place) ends (opened_since w.served))
 
 -- A call that was refused.
-pub opens-refused : (w v : FileMoment) (o : Option Doc) (ps : Places) → (v.fault ≡ None → ⊥) → OpensFor w o ps v
-opens-refused w v None ps refused = tt
-opens-refused w v (Some d) ps refused = λ quiet origin sound. absurd (refused quiet)
+module _ (old new : Head) (names : List (List ℕ)) (w v : StoreMoment) (fetched : Fetched old new w v)
+    (f g : Option ReadFault) (numbers : Numbers) (position : Position) (read_by : numbers ≡ numbers_in old.header)
+    (placed : (d : Doc) → IsFileOrigin (moment_of old names w.served w.held w.faults f).fixed d
+    → sound_for w.served w.held d old.key ≡ true → IsFilePlace d position)
+    (bound : ForEach (IsSoundStream v.served v.held new.header new.top new.key) (λ stream.
+    IfSome (step_at numbers stream position) (λ step.
+    HasReadWithin (opened_since w.served) position.place step.place (opened_since v.served)))) where
+  pub opens-err : (d : Doc) (ps : Places)
+      → (IsFileOrigin (moment_of old names w.served w.held w.faults f).fixed d → ps (place_of d position) ≡ true)
+      → OpensFor (moment_of old names w.served w.held w.faults f) (Some d) ps
+      (moment_of new names v.served v.held v.faults g)
+  opens-err d ps passes = λ origin sound.
+      let was = was-origin old new names w v fetched d f g origin in
+      by was (placed d was (fetched.was_sound d sound)) (step_at numbers (plain d) position) refl
+      (bound (plain d) (plain-may_be old new names w v fetched d f was sound))
+    where
+      by : IsFileOrigin (moment_of old names w.served w.held w.faults f).fixed d → IsFilePlace d position
+          → (o : Option Step) → step_at numbers (plain d) position ≡ o
+          → IfSome o (λ step. HasReadWithin (opened_since w.served) position.place step.place (opened_since v.served))
+          → OpensOnlyTold (HasByteWithin d ps) (opened_since w.served) (opened_since v.served)
+      by was place None is has =
+          absurd (file-some_step (moment_of old names w.served w.held w.faults f).fixed d was position place
+          (ap (λ n. step_at n (plain d) position) (sym read_by) ∙ is))
+      by was place (Some step) is has =
+          let same : numbers_of d ≡ numbers = ap numbers_in was.0.header_is ∙ sym read_by in
+          subst (λ (o : Option (List ℕ)). OpensOnlyTold (HasByteWithin d ps) (opened_since w.served) o) (sym has.opens)
+          (opened-of d position (place_of d position) place step
+          (ap (λ n. step_at n (plain d) position) same ∙ is) ps (passes was)
+          has.count has.within (opened_since w.served))
 
 -- the same, for an origin or none
 pub opens-any : (w v : FileMoment) (o : Option Doc) (ps : Places) → ((d : Doc) → OpensFor w (Some d) ps v) → OpensFor w o ps v

@@ -5,7 +5,8 @@ use Rattle.std.specs.Option.{option_map}
 use Rattle.std.proofs.lemmas.Bool.Decides.{nat_tests}
 use Rattle.acl_outside.specs.declared.read_fault.ReadFault.{ReadFault}
 use Rattle.skip_decode.specs.Fragments.{OpensFragment}
-use Rattle.skip_decode.specs.inside.Windows.{HasRead, HasReadSome, IsNewest, OpensSame, fragments_over, touch, touch_from, touched}
+use Rattle.skip_decode.specs.inside.Windows.{HasRead, HasReadSome, HasReadWithin, IsNewest, OpensSame}
+use Rattle.skip_decode.specs.inside.Windows.{fragments_over, touch, touch_from, touched}
 
 -- ---- lists
 
@@ -226,14 +227,41 @@ module _ (first : Option (List ℕ)) (start place : ℕ) (at : Option ℕ) (open
       by None = refl
       by (Some l) = ap Some (sym (touched-piece start place n l has.rises some fits))
 
-  -- the fragment of a byte, or none
+  -- the fragment of the next byte
+  touched-byte : (o : Option (List ℕ))
+      → option_map (touch (place / 256)) (option_map (touched start (place - start)) o)
+      ≡ option_map (touched start (place + 1 - start)) o
+  touched-byte None = refl
+  touched-byte (Some l) = ap Some (sym (touched-piece start place 1 l has.rises (omega arith) (omega arith)))
+
+  -- that fragment, or none
   pub read-same : (after : Option (List ℕ)) → OpensSame (touch (place / 256)) opened after → HasReadSome first start after
   read-same after (inl same) = record { count = place - start; opens = same ∙ has.opens }
-  read-same after (inr more) = record { count = place + 1 - start; opens = more ∙ ap (option_map (touch (place / 256))) has.opens ∙ by first }
-    where
-      by : (o : Option (List ℕ)) → option_map (touch (place / 256)) (option_map (touched start (place - start)) o) ≡ option_map (touched start (place + 1 - start)) o
-      by None = refl
-      by (Some l) = ap Some (sym (touched-piece start place 1 l has.rises (omega arith) (omega arith)))
+  read-same after (inr more) = record {
+    count = place + 1 - start;
+    opens = more ∙ ap (option_map (touch (place / 256))) has.opens ∙ touched-byte first;
+  }
+
+  -- the same, up to a byte offset after that byte
+  pub read-same-within : (to : ℕ) → place < to → (after : Option (List ℕ))
+      → OpensSame (touch (place / 256)) opened after → HasReadWithin first start to after
+  read-same-within to less after (inl same) =
+      let rises = has.rises in
+      record { count = place - start; within = omega (arith, rises, less); opens = same ∙ has.opens }
+  read-same-within to less after (inr more) =
+      let rises = has.rises in
+      record {
+        count = place + 1 - start;
+        within = omega (arith, rises, less);
+        opens = more ∙ ap (option_map (touch (place / 256))) has.opens ∙ touched-byte first;
+      }
+
+-- what ends before a byte offset ends before a later one
+pub within-more : (first : Option (List ℕ)) (start to later : ℕ) (opened : Option (List ℕ)) → to ≤ later
+    → HasReadWithin first start to opened → HasReadWithin first start later opened
+within-more first start to later opened le has =
+    let ends = has.within in
+    record { count = has.count; within = omega (arith, ends, le); opens = has.opens }
 
 -- nothing was read yet
 pub read-nothing : (place : ℕ) (at : Option ℕ) (opened : Option (List ℕ)) → IsNewest at opened → HasRead opened place place at opened
@@ -271,3 +299,23 @@ module _ (first : Option (List ℕ)) (start place : ℕ) (at : Option ℕ) (open
           none None = refl
           none (Some l) = ap Some (touched-none place l)
       by (suc n) is = record { count = place + suc n - start; opens = again (suc n) (omega arith) after is }
+
+  pub read-within-again : (to : ℕ) (after : Option (List ℕ)) → place < to → HasReadWithin opened place to after
+      → HasReadWithin first start to after
+  read-within-again to after less on = by on.count on.within on.opens
+    where
+      none : (o : Option (List ℕ)) → option_map (touched place 0) o ≡ o
+      none None = refl
+      none (Some l) = ap Some (touched-none place l)
+
+      by : (n : ℕ) → place + n ≤ to → after ≡ option_map (touched place n) opened → HasReadWithin first start to after
+      by zero ends is = record {
+        count = place + 1 - start;
+        within = omega (arith, rises, less);
+        opens = is ∙ none opened ∙ has.opens;
+      }
+      by (suc n) ends is = record {
+        count = place + suc n - start;
+        within = omega (arith, rises, ends);
+        opens = again (suc n) (omega arith) after is;
+      }

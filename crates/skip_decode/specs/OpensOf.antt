@@ -37,10 +37,10 @@ OpensOnlyTold so None (Some after) = ⊥
 OpensOnlyTold so (Some before) None = ⊥
 OpensOnlyTold so (Some before) (Some after) = OpensOnly so before after
 
--- For an origin for which the walk is sound afterwards: where the walk isn't refused, each fragment opened in between has
--- a byte of an event whose index passes the test.
+-- For an origin for which the walk is sound afterwards: each fragment opened in between has a byte of an event whose
+-- index passes the test.
 abbrev pub OpensFor : FileMoment → Option Doc → Places → FileMoment → Type 0
 OpensFor w None ps v = Unit {0}
 OpensFor w (Some d) ps v =
-    v.fault ≡ None → IsFileOrigin v.fixed d → is_sound_at v d ≡ true
+    IsFileOrigin v.fixed d → is_sound_at v d ≡ true
     → OpensOnlyTold (HasByteWithin d ps) (opened_since w.served) (opened_since v.served)

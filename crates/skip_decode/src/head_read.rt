@@ -1,12 +1,13 @@
 //! Reads the head of an element from a window. No byte is read twice: the first one or two have the bit by which the
 //! head's size is known, and the others are read after them.
 
-ghost use Rattle.std.specs.Prelude.{◌≡◌, ◌+◌, ◌-◌, ◌*◌, ◌/◌, ◌≤◌, ◌++◌, Some, length, take, drop, nat_eq, IsErrOf, IfOk, IfSome, OnOk};
+ghost use Rattle.std.specs.Prelude.{◌≡◌, ◌+◌, ◌-◌, ◌*◌, ◌/◌, ◌≤◌, ◌++◌, Some, length, take, drop};
+ghost use Rattle.std.specs.Prelude.{nat_eq, IsErrOf, OnErr, IfOk, IfSome, OnOk};
 ghost use Rattle.std.specs.Option.{option_and_then};
 ghost use Rattle.acl_bits.specs.FilledBits.{number_of};
 ghost use Rattle.skip_decode.specs.Fragments.{ForEach, FitsNone, Leads, Narrows, Refuses};
 ghost use Rattle.skip_decode.specs.inside.Moves.{IsHeadIn};
-ghost use Rattle.skip_decode.specs.inside.Windows.{AfterReads, HasRead, HasReadSome, IsHeld};
+ghost use Rattle.skip_decode.specs.inside.Windows.{AfterReads, HasRead, HasReadSome, HasReadWithin, IsHeld};
 ghost use Rattle.skip_decode.specs.inside.HeadReading.{head_bytes};
 ghost use Rattle.skip_decode.specs.StreamHeads.{take_within, number_width, inner_bit, inner_at, whole_head, head_at};
 
@@ -86,6 +87,8 @@ fn fill<F: Fragments>(
         OnOk result (HasRead first start (place + to) window.new.at (F.opened window.new.source))) }
     ensures some { AfterReads (place + from) window.old.at (F.opened window.old.source) (λ first start.
         HasReadSome first start (F.opened window.new.source)) }
+    ensures bound { AfterReads (place + from) window.old.at (F.opened window.old.source) (λ first start.
+        OnErr result (HasReadWithin first start (place + to) (F.opened window.new.source))) }
     ensures long { length buffer.new ≡ length buffer.old }
     ensures front { OnOk result (take from buffer.new ≡ take from buffer.old) }
     ensures bytes { OnOk result (ForEach (F.may_be window.new.source) (λ stream.
@@ -117,6 +120,8 @@ fn read_inner<F: Fragments>(
         IfOk result (λ found. IfSome found (λ x. HasRead first start (place + (9 + number) / 8) window.new.at (F.opened window.new.source)))) }
     ensures some { AfterReads place window.old.at (F.opened window.old.source) (λ first start.
         HasReadSome first start (F.opened window.new.source)) }
+    ensures bound { AfterReads place window.old.at (F.opened window.old.source) (λ first start.
+        OnErr result (HasReadWithin first start (place + (9 + number) / 8) (F.opened window.new.source))) }
     ensures inner { IfOk result (λ inner. ForEach (F.may_be window.new.source) (λ stream.
         inner ≡ inner_at number left (drop place stream))) }
     ensures bit { IfOk result (λ inner. IfSome inner (λ b.
@@ -162,6 +167,8 @@ fn read_head_of<F: Fragments>(
         IfOk result (λ found. IfSome found (λ x. HasRead first start (place + long) window.new.at (F.opened window.new.source)))) }
     ensures some { AfterReads (place + front) window.old.at (F.opened window.old.source) (λ first start.
         HasReadSome first start (F.opened window.new.source)) }
+    ensures bound { AfterReads (place + front) window.old.at (F.opened window.old.source) (λ first start.
+        OnErr result (HasReadWithin first start (place + long) (F.opened window.new.source))) }
     ensures front { OnOk result (take front buffer.new ≡ take front buffer.old) }
     ensures whole { IfOk result (λ head. IfSome head (λ h.
         whole_head members.now width (take long buffer.new) ≡ Some h)) }
@@ -200,6 +207,10 @@ pub(crate) fn read_head<F: Fragments>(
         IfOk result (λ found. IfSome found (λ x. HasRead first start (place + x.bytes) window.new.at (F.opened window.new.source)))) }
     ensures some { AfterReads place window.old.at (F.opened window.old.source) (λ first start.
         HasReadSome first start (F.opened window.new.source)) }
+    ensures bound { AfterReads place window.old.at (F.opened window.old.source) (λ first start.
+        OnErr result (ForEach (F.may_be window.new.source) (λ stream.
+        IfSome (head_at members.now width (end - place) (drop place stream)) (λ x.
+        HasReadWithin first start (place + x.bytes) (F.opened window.new.source))))) }
     ensures head { IfOk result (λ head. ForEach (F.may_be window.new.source) (λ stream.
         head ≡ head_at members.now width (end - place) (drop place stream))) }
     ensures fits { IfOk result (λ head. IfSome head (IsHeadIn members.now)) }

@@ -1,6 +1,7 @@
 //! Reads numbers and pieces of texts from a window.
 
-ghost use Rattle.std.specs.Prelude.{◌≡◌, ℕ, ◌+◌, ◌-◌, ◌*◌, ◌≤◌, Option, List, [], ◌∷◌, length, drop, nat_le, IsErrOf, OnOk, IfOk, IfSome};
+ghost use Rattle.std.specs.Prelude.{◌≡◌, ℕ, ◌+◌, ◌-◌, ◌*◌, ◌≤◌, Option, List, [], ◌∷◌, length, drop, nat_le};
+ghost use Rattle.std.specs.Prelude.{IsErrOf, OnErr, OnOk, IfOk, IfSome};
 ghost use Rattle.std.specs.Int.{w16, from_be_bytes};
 ghost use Rattle.std.specs.Option.{option_map};
 ghost use Rattle.acl_model.specs.Ascii.{line_feed};
@@ -9,7 +10,7 @@ ghost use Rattle.acl_walk.specs.Pieces.{piece_of};
 ghost use Rattle.skip_decode.specs.Fragments.{ForEach, FitsNone, Leads, Narrows, Refuses};
 ghost use Rattle.skip_decode.specs.StreamHeads.{take_within};
 ghost use Rattle.skip_decode.specs.StreamSteps.{after_piece, fragment_left, piece_at, length_at};
-ghost use Rattle.skip_decode.specs.inside.Windows.{AfterReads, HasRead, HasReadSome, IsHeld};
+ghost use Rattle.skip_decode.specs.inside.Windows.{AfterReads, HasRead, HasReadSome, HasReadWithin, IsHeld};
 
 use crate::fragments::Fragments;
 use crate::window::{FRAGMENT, Window};
@@ -42,6 +43,8 @@ pub(crate) fn read_piece<F: Fragments>(
         OnOk result (HasRead first start (after_piece place left) window.new.at (F.opened window.new.source))) }
     ensures some { AfterReads place window.old.at (F.opened window.old.source) (λ first start.
         HasReadSome first start (F.opened window.new.source)) }
+    ensures bound { AfterReads place window.old.at (F.opened window.old.source) (λ first start.
+        OnErr result (HasReadWithin first start (after_piece place left) (F.opened window.new.source))) }
     ensures piece { IfOk result (λ piece. ForEach (F.may_be window.new.source) (λ stream.
         piece ≡ piece_at stream place left)) }
     ensures last { IfOk result (λ piece. piece.last ≡ nat_le left (fragment_left place)) }
@@ -76,6 +79,8 @@ pub(crate) fn read_length<F: Fragments>(
         IfOk result (λ found. IfSome found (λ x. HasRead first start (place + 4) window.new.at (F.opened window.new.source)))) }
     ensures some { AfterReads place window.old.at (F.opened window.old.source) (λ first start.
         HasReadSome first start (F.opened window.new.source)) }
+    ensures bound { AfterReads place window.old.at (F.opened window.old.source) (λ first start.
+        OnErr result (HasReadWithin first start (place + 4) (F.opened window.new.source))) }
     ensures length { IfOk result (λ long. ForEach (F.may_be window.new.source) (λ stream.
         long ≡ length_at stream place end)) }
     ensures inside { IfOk result (λ long. IfSome long (λ n. place + 4 + n ≤ end)) }
@@ -113,6 +118,8 @@ pub(crate) fn read_count<F: Fragments>(
         IfOk result (λ found. IfSome found (λ x. HasRead first start (place + 2) window.new.at (F.opened window.new.source)))) }
     ensures some { AfterReads place window.old.at (F.opened window.old.source) (λ first start.
         HasReadSome first start (F.opened window.new.source)) }
+    ensures bound { AfterReads place window.old.at (F.opened window.old.source) (λ first start.
+        OnErr result (HasReadWithin first start (place + 2) (F.opened window.new.source))) }
     ensures count { IfOk result (λ count. ForEach (F.may_be window.new.source) (λ stream.
         count ≡ option_map (from_be_bytes w16) (take_within (end - place) 2 (drop place stream)))) }
     ensures inside { IfOk result (λ count. IfSome count (λ n. place + 2 ≤ end)) }
@@ -145,6 +152,8 @@ pub(crate) fn read_byte<F: Fragments>(
         IfOk result (λ found. IfSome found (λ x. HasRead first start (place + 1) window.new.at (F.opened window.new.source)))) }
     ensures some { AfterReads place window.old.at (F.opened window.old.source) (λ first start.
         HasReadSome first start (F.opened window.new.source)) }
+    ensures bound { AfterReads place window.old.at (F.opened window.old.source) (λ first start.
+        OnErr result (HasReadWithin first start (place + 1) (F.opened window.new.source))) }
     ensures byte { IfOk result (λ byte. ForEach (F.may_be window.new.source) (λ stream.
         option_map (λ b. b ∷ []) byte ≡ take_within (end - place) 1 (drop place stream))) }
 {

@@ -1,12 +1,12 @@
 //! The next step of a walk, by what comes next at its spot.
 
-ghost use Rattle.std.specs.Prelude.{◌≡◌, ◌<◌, ◌≤◌, ◌*◌, ◌^◌, None, Some, All, IsErrOf, IfOk, IfSome};
+ghost use Rattle.std.specs.Prelude.{◌≡◌, ◌<◌, ◌≤◌, ◌*◌, ◌^◌, None, Some, All, IsErrOf, OnErr, IfOk, IfSome};
 ghost use Rattle.skip_decode.specs.Fragments.{FitsNone, ForEach, Leads, Narrows, Refuses, RefusesOrBad};
 ghost use Rattle.skip_decode.specs.Positions.{tree_end};
 ghost use Rattle.skip_decode.specs.Spots.{FitsInside, FitsOutside, IsSpot};
 ghost use Rattle.skip_decode.specs.StreamSteps.{end_step, step_at, step_inside, step_outside};
 ghost use Rattle.skip_decode.specs.inside.Moves.{IsMove, MoveInside, MoveOutside};
-ghost use Rattle.skip_decode.specs.inside.Windows.{AfterReads, HasRead, HasReadSome, IsHeld};
+ghost use Rattle.skip_decode.specs.inside.Windows.{AfterReads, HasRead, HasReadSome, HasReadWithin, IsHeld};
 
 use crate::fragments::Fragments;
 use crate::position::{Level, Next, Numbers};
@@ -53,6 +53,10 @@ fn step_outside<F: Fragments>(
         HasRead first start s.place window.new.at (F.opened window.new.source)))) }
     ensures some { AfterReads place window.old.at (F.opened window.old.source) (λ first start.
         HasReadSome first start (F.opened window.new.source)) }
+    ensures bound { AfterReads place window.old.at (F.opened window.old.source) (λ first start.
+        OnErr result (ForEach (F.may_be window.new.source) (λ stream.
+        IfSome (step_outside numbers.now stream next place) (λ s.
+        HasReadWithin first start s.place (F.opened window.new.source))))) }
     ensures step { IfOk result (λ step. ForEach (F.may_be window.new.source) (λ stream.
         step ≡ step_outside numbers.now stream next place)) }
     ensures moves { IfOk result (λ step. IfSome step (λ s.
@@ -95,6 +99,10 @@ fn step_inside<F: Fragments>(
         HasRead first start s.place window.new.at (F.opened window.new.source)))) }
     ensures some { AfterReads place window.old.at (F.opened window.old.source) (λ first start.
         HasReadSome first start (F.opened window.new.source)) }
+    ensures bound { AfterReads place window.old.at (F.opened window.old.source) (λ first start.
+        OnErr result (ForEach (F.may_be window.new.source) (λ stream.
+        IfSome (step_inside numbers.now stream around level.now next place) (λ s.
+        HasReadWithin first start s.place (F.opened window.new.source))))) }
     ensures step { IfOk result (λ step. ForEach (F.may_be window.new.source) (λ stream.
         step ≡ step_inside numbers.now stream around level.now next place)) }
     ensures moves { IfOk result (λ step. IfSome step (λ s.
@@ -133,6 +141,10 @@ pub(crate) fn next_step<F: Fragments>(
         HasRead first start s.place window.new.at (F.opened window.new.source)))) }
     ensures some { AfterReads spot.now.place window.old.at (F.opened window.old.source) (λ first start.
         HasReadSome first start (F.opened window.new.source)) }
+    ensures bound { AfterReads spot.now.place window.old.at (F.opened window.old.source) (λ first start.
+        OnErr result (ForEach (F.may_be window.new.source) (λ stream.
+        IfSome (step_at numbers.now stream spot.now) (λ s.
+        HasReadWithin first start s.place (F.opened window.new.source))))) }
     ensures step { IfOk result (λ step. ForEach (F.may_be window.new.source) (λ stream.
         step ≡ step_at numbers.now stream spot.now)) }
     ensures moves { IfOk result (λ step. IfSome step (IsMove numbers.now spot.now)) }
@@ -171,6 +183,10 @@ pub(crate) fn checked_step<F: Fragments>(
         IfOk result (λ step. HasRead first start step.place window.new.at (F.opened window.new.source))) }
     ensures some { AfterReads spot.now.place window.old.at (F.opened window.old.source) (λ first start.
         HasReadSome first start (F.opened window.new.source)) }
+    ensures bound { AfterReads spot.now.place window.old.at (F.opened window.old.source) (λ first start.
+        OnErr result (ForEach (F.may_be window.new.source) (λ stream.
+        IfSome (step_at numbers.now stream spot.now) (λ s.
+        HasReadWithin first start s.place (F.opened window.new.source))))) }
     ensures step { IfOk result (λ step. ForEach (F.may_be window.new.source) (λ stream.
         step_at numbers.now stream spot.now ≡ Some step)) }
     ensures moves { IfOk result (IsMove numbers.now spot.now) }

@@ -1,11 +1,11 @@
 //! The steps of a reader along a stream. None means that the bytes there are of no document's stream.
 
-ghost use Rattle.std.specs.Prelude.{◌≡◌, ◌+◌, ◌*◌, ◌^◌, ◌<◌, ◌≤◌, [], ◌∷◌, IsErrOf, IfOk, IfSome};
+ghost use Rattle.std.specs.Prelude.{◌≡◌, ◌+◌, ◌*◌, ◌^◌, ◌<◌, ◌≤◌, [], ◌∷◌, IsErrOf, OnErr, IfOk, IfSome};
 ghost use Rattle.skip_decode.specs.Fragments.{ForEach, FitsNone, Leads, Narrows, Refuses};
 ghost use Rattle.skip_decode.specs.Positions.{above_root, tree_end};
 ghost use Rattle.skip_decode.specs.inside.Moves.{AttributeMoves, BeginMove, BeginMoves, HeadMove, ItemMoves, TextMove, TextMoves};
 ghost use Rattle.skip_decode.specs.StreamSteps.{after_piece, next_in_text, next_in_attribute, text_step, text_begun, attribute_step, attributes_step, count_step, element_begun, finish_step, checked_finish, item_by, item_step, is_only, root_step};
-ghost use Rattle.skip_decode.specs.inside.Windows.{AfterReads, HasRead, HasReadSome, IsHeld};
+ghost use Rattle.skip_decode.specs.inside.Windows.{AfterReads, HasRead, HasReadSome, HasReadWithin, IsHeld};
 
 use crate::begun::{above_root, begun_with};
 use crate::fragments::Fragments;
@@ -74,6 +74,10 @@ pub(crate) fn text_step<F: Fragments>(
         HasRead first start s.place window.new.at (F.opened window.new.source)))) }
     ensures some { AfterReads place window.old.at (F.opened window.old.source) (λ first start.
         HasReadSome first start (F.opened window.new.source)) }
+    ensures bound { AfterReads place window.old.at (F.opened window.old.source) (λ first start.
+        OnErr result (ForEach (F.may_be window.new.source) (λ stream.
+        IfSome (text_step stream place left) (λ s.
+        HasReadWithin first start s.place (F.opened window.new.source))))) }
     ensures step { IfOk result (λ step. ForEach (F.may_be window.new.source) (λ stream.
         step ≡ text_step stream place left)) }
     ensures moves { IfOk result (λ step. IfSome step (TextMoves place left)) }
@@ -111,6 +115,10 @@ pub(crate) fn text_begun<F: Fragments>(
         HasRead first start s.place window.new.at (F.opened window.new.source)))) }
     ensures some { AfterReads place window.old.at (F.opened window.old.source) (λ first start.
         HasReadSome first start (F.opened window.new.source)) }
+    ensures bound { AfterReads place window.old.at (F.opened window.old.source) (λ first start.
+        OnErr result (ForEach (F.may_be window.new.source) (λ stream.
+        IfSome (text_begun stream place end) (λ s.
+        HasReadWithin first start s.place (F.opened window.new.source))))) }
     ensures rises { IfOk result (λ step. IfSome step (λ s. place < s.place)) }
     ensures step { IfOk result (λ step. ForEach (F.may_be window.new.source) (λ stream.
         step ≡ text_begun stream place end)) }
@@ -144,6 +152,10 @@ pub(crate) fn attribute_step<F: Fragments>(
         HasRead first start s.place window.new.at (F.opened window.new.source)))) }
     ensures some { AfterReads place window.old.at (F.opened window.old.source) (λ first start.
         HasReadSome first start (F.opened window.new.source)) }
+    ensures bound { AfterReads place window.old.at (F.opened window.old.source) (λ first start.
+        OnErr result (ForEach (F.may_be window.new.source) (λ stream.
+        IfSome (attribute_step stream more place left) (λ s.
+        HasReadWithin first start s.place (F.opened window.new.source))))) }
     ensures step { IfOk result (λ step. ForEach (F.may_be window.new.source) (λ stream.
         step ≡ attribute_step stream more place left)) }
     ensures moves { IfOk result (λ step. IfSome step (AttributeMoves place left)) }
@@ -182,6 +194,10 @@ pub(crate) fn attributes_step<F: Fragments>(
         HasRead first start s.place window.new.at (F.opened window.new.source)))) }
     ensures some { AfterReads place window.old.at (F.opened window.old.source) (λ first start.
         HasReadSome first start (F.opened window.new.source)) }
+    ensures bound { AfterReads place window.old.at (F.opened window.old.source) (λ first start.
+        OnErr result (ForEach (F.may_be window.new.source) (λ stream.
+        IfSome (attributes_step stream place end count) (λ s.
+        HasReadWithin first start s.place (F.opened window.new.source))))) }
     ensures step { IfOk result (λ step. ForEach (F.may_be window.new.source) (λ stream.
         step ≡ attributes_step stream place end count)) }
     ensures moves { IfOk result (λ step. IfSome step (HeadMove end place)) }
@@ -222,6 +238,10 @@ pub(crate) fn count_step<F: Fragments>(
         HasRead first start s.place window.new.at (F.opened window.new.source)))) }
     ensures some { AfterReads place window.old.at (F.opened window.old.source) (λ first start.
         HasReadSome first start (F.opened window.new.source)) }
+    ensures bound { AfterReads place window.old.at (F.opened window.old.source) (λ first start.
+        OnErr result (ForEach (F.may_be window.new.source) (λ stream.
+        IfSome (count_step stream place end) (λ s.
+        HasReadWithin first start s.place (F.opened window.new.source))))) }
     ensures step { IfOk result (λ step. ForEach (F.may_be window.new.source) (λ stream.
         step ≡ count_step stream place end)) }
     ensures moves { IfOk result (λ step. IfSome step (HeadMove end place)) }
@@ -257,6 +277,10 @@ pub(crate) fn element_begun<F: Fragments>(
         HasRead first start s.place window.new.at (F.opened window.new.source)))) }
     ensures some { AfterReads place window.old.at (F.opened window.old.source) (λ first start.
         HasReadSome first start (F.opened window.new.source)) }
+    ensures bound { AfterReads place window.old.at (F.opened window.old.source) (λ first start.
+        OnErr result (ForEach (F.may_be window.new.source) (λ stream.
+        IfSome (element_begun depth stream around parent.now place) (λ s.
+        HasReadWithin first start s.place (F.opened window.new.source))))) }
     ensures rises { IfOk result (λ step. IfSome step (λ s. place < s.place)) }
     ensures step { IfOk result (λ step. ForEach (F.may_be window.new.source) (λ stream.
         step ≡ element_begun depth stream around parent.now place)) }
@@ -315,6 +339,10 @@ fn item_by<F: Fragments>(
         HasRead first start s.place window.new.at (F.opened window.new.source)))) }
     ensures some { AfterReads place window.old.at (F.opened window.old.source) (λ first start.
         HasReadSome first start (F.opened window.new.source)) }
+    ensures bound { AfterReads place window.old.at (F.opened window.old.source) (λ earlier start.
+        OnErr result (ForEach (F.may_be window.new.source) (λ stream.
+        IfSome (item_by depth stream around level.now place (first ∷ [])) (λ s.
+        HasReadWithin earlier start s.place (F.opened window.new.source))))) }
     ensures rises { IfOk result (λ step. IfSome step (λ s. place < s.place)) }
     ensures step { IfOk result (λ step. ForEach (F.may_be window.new.source) (λ stream.
         step ≡ item_by depth stream around level.now place (first ∷ []))) }
@@ -351,6 +379,10 @@ pub(crate) fn item_step<F: Fragments>(
         HasRead first start s.place window.new.at (F.opened window.new.source)))) }
     ensures some { AfterReads place window.old.at (F.opened window.old.source) (λ first start.
         HasReadSome first start (F.opened window.new.source)) }
+    ensures bound { AfterReads place window.old.at (F.opened window.old.source) (λ first start.
+        OnErr result (ForEach (F.may_be window.new.source) (λ stream.
+        IfSome (item_step depth stream around level.now place) (λ s.
+        HasReadWithin first start s.place (F.opened window.new.source))))) }
     ensures step { IfOk result (λ step. ForEach (F.may_be window.new.source) (λ stream.
         step ≡ item_step depth stream around level.now place)) }
     ensures moves { IfOk result (λ step. IfSome step (ItemMoves depth around level.now place)) }
@@ -397,6 +429,10 @@ pub(crate) fn root_step<F: Fragments>(
         HasRead first start s.place window.new.at (F.opened window.new.source)))) }
     ensures some { AfterReads place window.old.at (F.opened window.old.source) (λ first start.
         HasReadSome first start (F.opened window.new.source)) }
+    ensures bound { AfterReads place window.old.at (F.opened window.old.source) (λ first start.
+        OnErr result (ForEach (F.may_be window.new.source) (λ stream.
+        IfSome (root_step numbers.now stream place) (λ s.
+        HasReadWithin first start s.place (F.opened window.new.source))))) }
     ensures step { IfOk result (λ step. ForEach (F.may_be window.new.source) (λ stream.
         step ≡ root_step numbers.now stream place)) }
     ensures moves { IfOk result (λ step. IfSome step (λ s.

@@ -1,10 +1,12 @@
 //! Bytes of a stream, read through the fragment that is held. A fragment is fetched only where
 //! another one is held.
 
-ghost use Rattle.std.specs.Prelude.{◌≡◌, ◌+◌, ◌*◌, ◌/◌, ◌%◌, ◌<◌, ◌≤◌, None, Some, length, take, drop, IsErrOf, OnOk};
+ghost use Rattle.std.specs.Prelude.{◌≡◌, ◌+◌, ◌*◌, ◌/◌, ◌%◌, ◌<◌, ◌≤◌, None, Some, length, take, drop};
+ghost use Rattle.std.specs.Prelude.{IsErrOf, OnErr, OnOk};
 ghost use Rattle.std.specs.Option.{option_map};
 ghost use Rattle.skip_decode.specs.Fragments.{ForEach, FitsNone, Leads, Narrows, Refuses};
-ghost use Rattle.skip_decode.specs.inside.Windows.{AfterReads, HasRead, HasReadSome, IsHeld, IsNewest, OpensSame, touch};
+ghost use Rattle.skip_decode.specs.inside.Windows.{AfterReads, HasRead, HasReadSome, HasReadWithin, IsHeld};
+ghost use Rattle.skip_decode.specs.inside.Windows.{IsNewest, OpensSame, touch};
 
 use crate::fragments::Fragments;
 use acl_outside::ReadFault;
@@ -78,6 +80,8 @@ impl<F: Fragments> Window<F> {
             OnOk result (HasRead first start (place + length into.old) self.new.at (F.opened self.new.source))) }
         ensures some { AfterReads place self.old.at (F.opened self.old.source) (λ first start.
             HasReadSome first start (F.opened self.new.source)) }
+        ensures bound { AfterReads place self.old.at (F.opened self.old.source) (λ first start.
+            OnErr result (HasReadWithin first start (place + length into.old) (F.opened self.new.source))) }
         ensures bytes { OnOk result (ForEach (F.may_be self.new.source) (λ stream.
             into.new ≡ take (length into.old) (drop place stream))) }
     {
@@ -105,6 +109,8 @@ impl<F: Fragments> Window<F> {
             OnOk result (HasRead first start (place + length into.old) self.new.at (F.opened self.new.source))) }
         ensures some { AfterReads place self.old.at (F.opened self.old.source) (λ first start.
             HasReadSome first start (F.opened self.new.source)) }
+        ensures bound { AfterReads place self.old.at (F.opened self.old.source) (λ first start.
+            OnErr result (HasReadWithin first start (place + length into.old) (F.opened self.new.source))) }
         ensures bytes { OnOk result (ForEach (F.may_be self.new.source) (λ stream.
             into.new ≡ take (length into.old) (drop place stream))) }
     {

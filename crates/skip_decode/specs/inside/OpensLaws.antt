@@ -2,9 +2,7 @@
 use Rattle.std.proofs.Common.{◌≡◌, ℕ, false, Option, Some, None, List, [], ◌++◌, append_assoc, refl, ap, sym, ◌∙◌, subst}
 use Rattle.std.proofs.lemmas.Bool.{true≢false}
 use Rattle.std.proofs.lemmas.List.Elements.{All-append, All-nil}
-use Rattle.std.proofs.lemmas.Option.{none-some}
 use Rattle.acl_model.specs.declared.document.Doc.{Doc}
-use Rattle.acl_outside.specs.declared.read_fault.ReadFault.{ReadFault}
 use Rattle.acl_walk.specs.Following.{Goes, Places, Within}
 use Rattle.skip_decode.specs.FileWalk.{FileMoment, FileWent, IsFileOrigin, is_sound_at}
 use Rattle.skip_decode.specs.OpensOf.{HasByteWithin, OpensFor, OpensOnlyTold}
@@ -42,31 +40,23 @@ only-wider d ps qs more (Some a) (Some b) one = record {
       record { index = has.index; passes = more has.index has.passes; byte = has.byte };
 }
 
--- a walk that isn't refused wasn't before
-quiet-before : (v w : FileMoment) → FileWent v w → w.fault ≡ None → v.fault ≡ None
-quiet-before v w went quiet = by v.fault refl
-  where
-    by : (o : Option ReadFault) → v.fault ≡ o → o ≡ None
-    by None is = refl
-    by (Some fault) is = absurd (none-some fault (sym quiet ∙ went.reads.stays fault is))
-
 opens-nowhere : (w : FileMoment) (o : Option Doc) (ps : Places) → OpensFor w o ps w
 opens-nowhere w None ps = tt
-opens-nowhere w (Some d) ps = λ quiet origin sound. only-none (HasByteWithin d ps) _
+opens-nowhere w (Some d) ps = λ origin sound. only-none (HasByteWithin d ps) _
 
 opens-onward : (u v w : FileMoment) (o : Option Doc) (ps : Places) → FileWent v w → OpensFor u o ps v → OpensFor v o ps w → OpensFor u o ps w
 opens-onward u v w None ps went first second = tt
-opens-onward u v w (Some d) ps went first second = λ quiet origin sound.
+opens-onward u v w (Some d) ps went first second = λ origin sound.
     only-onward (HasByteWithin d ps) _ _ _
-    (first (quiet-before v w went quiet) (subst (λ k. IsFileOrigin k d) went.same origin) (went.was_sound d sound))
-    (second quiet origin sound)
+    (first (subst (λ k. IsFileOrigin k d) went.same origin) (went.was_sound d sound))
+    (second origin sound)
 
 opens-wider : (w v : FileMoment) (o : Option Doc) (ps qs : Places) → Within ps qs → OpensFor w o ps v → OpensFor w o qs v
 opens-wider w v None ps qs more opens = tt
-opens-wider w v (Some d) ps qs more opens = λ quiet origin sound. only-wider d ps qs more _ _ (opens quiet origin sound)
+opens-wider w v (Some d) ps qs more opens = λ origin sound. only-wider d ps qs more _ _ (opens origin sound)
 
 opens-unsound : (w v : FileMoment) (d : Doc) (ps : Places) → is_sound_at v d ≡ false → OpensFor w (Some d) ps v
-opens-unsound w v d ps not_sound = λ quiet origin sound. absurd (true≢false (sym sound ∙ not_sound))
+opens-unsound w v d ps not_sound = λ origin sound. absurd (true≢false (sym sound ∙ not_sound))
 
 -- The laws of `went`, for a walk with these moments over a store with this name.
 pub opening_going : {Walk Name : Type 0} (moment : Walk → FileMoment) (name : Walk → Name)

@@ -75,6 +75,13 @@ pub record HasReadSome (first : Option (List ℕ)) (start : ℕ) (opened : Optio
   pub count : ℕ
   pub opens : opened ≡ option_map (touched start count) first
 
+-- Since such a moment, so many bytes from a byte offset on were read or asked for. They end at or before another byte
+-- offset.
+pub record HasReadWithin (first : Option (List ℕ)) (start to : ℕ) (opened : Option (List ℕ)) : Type 0 where
+  pub count : ℕ
+  pub within : start + count ≤ to
+  pub opens : opened ≡ option_map (touched start count) first
+
 -- What is true after a call where exactly the bytes up to a byte offset were read before it, from whichever moment on.
 abbrev pub AfterReads : ℕ → Option ℕ → Option (List ℕ) → (Option (List ℕ) → ℕ → Type 0) → Type 0
 AfterReads place at opened so =

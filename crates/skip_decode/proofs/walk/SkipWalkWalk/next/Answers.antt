@@ -10,7 +10,7 @@ use Rattle.skip_decode.specs.inside.StoreLaws.{fetched-nowhere}
 use Rattle.skip_decode.specs.inside.Moves.{IsMove}
 use Rattle.skip_decode.proofs.FileSteps.{bad-index, kept-fault, none-so, plain-may_be, step-event, step-falls, step-follows, step-made, step-placed, step-room, step-stage, went-err, went-ok}
 use Rattle.skip_decode.proofs.Touches.{read-nothing}
-use Rattle.skip_decode.proofs.OpensSteps.{only-itself, opens-any, opens-refused, opens-step}
+use Rattle.skip_decode.proofs.OpensSteps.{only-itself, opens-any, opens-err, opens-step}
 use Rattle.skip_decode.proofs.StraightSteps.{straight-refused, straight-step}
 use Rattle.skip_decode.proofs.walk.SkipWalkWalk.next.Goals as goal
 
@@ -138,7 +138,20 @@ returns-in-Err-clause-went_all g c = λ o.
       went-err old.head new.head c.args.self.now.names (store_moment (g.S.Store.served old.store.now) (g.S.Store.holds old.store.now) (g.S.Store.faults old.store.now) old.fault) (store_moment (g.S.Store.served new.store.now) (g.S.Store.holds new.store.now) (g.S.Store.faults new.store.now) new.fault) led.1 c.args.self.now.fault c.in-Err.fault quiet (c.args.self.now.quiet quiet) c.in-Err.ensures.refuses
           (λ bad. bad-index old.head new.head c.args.self.now.names (store_moment (g.S.Store.served old.store.now) (g.S.Store.holds old.store.now) (g.S.Store.faults old.store.now) old.fault) (store_moment (g.S.Store.served new.store.now) (g.S.Store.holds new.store.now) (g.S.Store.faults new.store.now) new.fault) led.1 c.args.self.now.numbers c.args.spot.now c.args.self.now.fault
           c.args.self.now.read_by (c.requires.placed quiet) (c.checked_step.ensures.index (kept-fault c.checked_step.result c.in-Err.fault c.in-Err.is bad))),
-      opens-refused (moment_of old.head c.args.self.now.names (g.S.Store.served old.store.now) (g.S.Store.holds old.store.now) (g.S.Store.faults old.store.now) c.args.self.now.fault) (moment_of new.head c.args.self.now.names (g.S.Store.served new.store.now) (g.S.Store.holds new.store.now) (g.S.Store.faults new.store.now) (Some c.in-Err.fault)) o _ (λ none. none-some _ (sym none)),
+      let names = c.args.self.now.names in
+          let before =
+          store_moment (g.S.Store.served old.store.now) (g.S.Store.holds old.store.now)
+          (g.S.Store.faults old.store.now) old.fault in
+          let after =
+          store_moment (g.S.Store.served new.store.now) (g.S.Store.holds new.store.now)
+          (g.S.Store.faults new.store.now) new.fault in
+          let here = read-nothing c.args.spot.now.place _ _ (c.args.self.now.newest quiet) in
+          let bound = c.in-Err.ensures.bound _ c.args.spot.now.place here in
+          opens-any (moment_of old.head names before.served before.held before.faults c.args.self.now.fault)
+          (moment_of new.head names after.served after.held after.faults (Some c.in-Err.fault)) o _ (λ d.
+          opens-err old.head new.head names before after led.1 c.args.self.now.fault (Some c.in-Err.fault)
+          c.args.self.now.numbers c.args.spot.now c.args.self.now.read_by (c.requires.placed quiet) bound d _
+          (λ origin. refl)),
     )
 
 pub returns-in-Err-clause-went_here : goal.returns-in-Err-clause-went_here
@@ -151,7 +164,18 @@ returns-in-Err-clause-went_here g c = λ e from.
       went-err old.head new.head c.args.self.now.names (store_moment (g.S.Store.served old.store.now) (g.S.Store.holds old.store.now) (g.S.Store.faults old.store.now) old.fault) (store_moment (g.S.Store.served new.store.now) (g.S.Store.holds new.store.now) (g.S.Store.faults new.store.now) new.fault) led.1 c.args.self.now.fault c.in-Err.fault quiet (c.args.self.now.quiet quiet) c.in-Err.ensures.refuses
           (λ bad. bad-index old.head new.head c.args.self.now.names (store_moment (g.S.Store.served old.store.now) (g.S.Store.holds old.store.now) (g.S.Store.faults old.store.now) old.fault) (store_moment (g.S.Store.served new.store.now) (g.S.Store.holds new.store.now) (g.S.Store.faults new.store.now) new.fault) led.1 c.args.self.now.numbers c.args.spot.now c.args.self.now.fault
           c.args.self.now.read_by (c.requires.placed quiet) (c.checked_step.ensures.index (kept-fault c.checked_step.result c.in-Err.fault c.in-Err.is bad))),
-      opens-refused (moment_of old.head c.args.self.now.names (g.S.Store.served old.store.now) (g.S.Store.holds old.store.now) (g.S.Store.faults old.store.now) c.args.self.now.fault) (moment_of new.head c.args.self.now.names (g.S.Store.served new.store.now) (g.S.Store.holds new.store.now) (g.S.Store.faults new.store.now) (Some c.in-Err.fault)) (Some e) _ (λ none. none-some _ (sym none)),
+      let names = c.args.self.now.names in
+          let before =
+          store_moment (g.S.Store.served old.store.now) (g.S.Store.holds old.store.now)
+          (g.S.Store.faults old.store.now) old.fault in
+          let after =
+          store_moment (g.S.Store.served new.store.now) (g.S.Store.holds new.store.now)
+          (g.S.Store.faults new.store.now) new.fault in
+          let here = read-nothing c.args.spot.now.place _ _ (c.args.self.now.newest quiet) in
+          let bound = c.in-Err.ensures.bound _ c.args.spot.now.place here in
+          opens-err old.head new.head names before after led.1 c.args.self.now.fault (Some c.in-Err.fault)
+          c.args.self.now.numbers c.args.spot.now c.args.self.now.read_by (c.requires.placed quiet) bound e _
+          (λ origin. only-itself (place_of e c.args.spot.now)),
     )
 
 pub returns-in-Ok-clause-ahead : goal.returns-in-Ok-clause-ahead

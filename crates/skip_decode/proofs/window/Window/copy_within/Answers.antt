@@ -1,7 +1,8 @@
 -- The bytes copied are those of the fragment that is held.
 use Rattle.std.proofs.Common.{◌≡◌, ◌≤◌, ◌+◌, ◌-◌, ◌%◌, length, take, drop, ap, ◌∙◌, arith}
 use Rattle.skip_decode.proofs.WindowBytes.{held_bytes}
-use Rattle.skip_decode.proofs.Touches.{read-piece, read-same}
+use Rattle.skip_decode.proofs.MoveLaws.{err-any}
+use Rattle.skip_decode.proofs.Touches.{read-piece, read-same, read-same-within}
 use Rattle.skip_decode.proofs.window.Window.copy_within.Goals as goal
 
 pub returns-clause-bytes : goal.returns-clause-bytes
@@ -24,3 +25,9 @@ returns-clause-opens g c = λ first start has.
 pub returns-clause-some : goal.returns-clause-some
 returns-clause-some g c = λ first start has.
     read-same first start c.args.place _ _ has _ (c.in_ok-open.ensures.some has.newest)
+
+pub returns-in_err-open-clause-bound : goal.returns-in_err-open-clause-bound
+returns-in_err-open-clause-bound g c = λ first start has.
+    let some : 1 ≤ length c.args.into.now = grind (arith, c.if-is_empty.false, c.is_empty.ensures) in
+    err-any _ (read-same-within first start c.args.place _ _ has
+    (c.args.place + length c.args.into.now) (omega (arith, some)) _ (c.in_err-open.ensures.some has.newest))
