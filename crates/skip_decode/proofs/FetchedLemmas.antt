@@ -1,5 +1,5 @@
 -- What an opener's store shows after a fetch.
-use Rattle.std.proofs.Common.{◌≡◌, ℕ, true, false, List, refl, sym, ◌∙◌, subst}
+use Rattle.std.proofs.Common.{◌≡◌, ℕ, true, false, List, refl, sym, subst}
 use Rattle.std.specs.Prelude.{Option, None, Some, IfSome, Result, Ok, Err, OnOk, IfErr, MatchResult}
 use Rattle.std.specs.List.{list_all, list_any}
 use Rattle.std.proofs.lemmas.Bool.{true≢false}
@@ -18,7 +18,6 @@ use Rattle.fragment_open.proofs.CheckedLemmas.{settled-checked}
 use Rattle.fragment_open.proofs.FetchLemmas.{settled-regular}
 use Rattle.merkle_chunks.specs.declared.header.Header.{Header}
 use Rattle.skip_decode.specs.CheckedStream.{Fetched, store_moment}
-use Rattle.skip_decode.specs.Fragments.{Refuses}
 use Rattle.skip_decode.specs.StoreWent.{AreGood, IsCause, IsQuietUnlessFailed, OfReads, StoreWent, refused_fragment, refused_short}
 use Rattle.skip_decode.proofs.OpenerLemmas.{fault_in, file-told, narrower_sound}
 
@@ -26,15 +25,6 @@ use Rattle.skip_decode.proofs.OpenerLemmas.{fault_in, file-told, narrower_sound}
 pub kept_is : (r : Result (Unit {0}) ReadFault) (kept : Option ReadFault) → MatchResult r (λ done. kept ≡ None) (λ fault. kept ≡ Some fault) → kept ≡ fault_in r
 kept_is (Ok done) kept stays = stays
 kept_is (Err fault) kept stays = stays
-
--- it is repeated from now on
-pub refuses_so : (r : Result (Unit {0}) ReadFault) (before after : Option ReadFault) → before ≡ None → MatchResult r (λ done. after ≡ None) (λ fault. after ≡ Some fault) → Refuses r before after
-refuses_so (Ok done) before after none stays = stays ∙ sym none
-refuses_so (Err fault) before after none stays = stays
-
--- it was repeated
-pub refuses_again : (r : Result (Unit {0}) ReadFault) (fault : ReadFault) (before after : Option ReadFault) → r ≡ Err fault → before ≡ Some fault → after ≡ before → Refuses r before after
-refuses_again r fault before after failed was still = subst (λ (o : Result (Unit {0}) ReadFault). Refuses o before after) (sym failed) (still ∙ was)
 
 module _ (index : ℕ) (old : Head) (bytes : List ℕ) (served : Option (List StoreRead)) where
   -- the reads are regular

@@ -10,6 +10,7 @@ pub mod FileSteps
 pub mod FileWalkLaws
 pub mod Fills
 pub mod FirstBits
+pub mod FlagSets
 pub mod HeadBits
 pub mod HeadExact
 pub mod HeadSizes
@@ -24,6 +25,7 @@ pub mod Moves
 pub mod Names
 pub mod NamesRead
 pub mod OpenedFirst
+pub mod OpenedNone
 pub mod OpenerLemmas
 pub mod OpensSteps
 pub mod PassRuns

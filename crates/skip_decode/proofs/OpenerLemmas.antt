@@ -1,5 +1,5 @@
 -- What an opener may be reading after a call, and which fragment it gave.
-use Rattle.std.proofs.Common.{◌≡◌, ℕ, ◌<◌, ◌*◌, ◌/◌, true, false, List, [], length, get_or, sym, ap, ◌∙◌, subst, arith}
+use Rattle.std.proofs.Common.{◌≡◌, ℕ, ◌<◌, ◌*◌, ◌/◌, true, false, List, [], length, get_or, refl, sym, ap, ◌∙◌, subst, arith}
 use Rattle.std.specs.Prelude.{Option, None, Some, IfSome, Result, Ok, Err, OnOk, MatchResult}
 use Rattle.std.specs.List.{list_any}
 use Rattle.std.proofs.lemmas.Bool.{true≢false}
@@ -35,6 +35,17 @@ file-told (Some bytes) d key told = ap (λ (l : List ℕ). Some l) ((bytes_eq-De
 abbrev pub fault_in : Result (Unit {0}) ReadFault → Option ReadFault
 fault_in (Ok done) = None
 fault_in (Err fault) = Some fault
+
+-- what is true of the value, if there is one, gives what follows from it
+pub if_some : {T : Type 0} (P Q : T → Type 0) (o : Option T) → ((x : T) → P x → Q x) → IfSome o P → IfSome o Q
+if_some P Q None so is = tt
+if_some P Q (Some x) so is = so x is
+
+-- an opener whose call was not refused had refused nothing
+pub ok_quiet : (P : ReadFault → Type 0) (done : Unit {0}) (before : Option ReadFault)
+    → IfSome before (λ fault. (Ok done ≡ Err fault) × P fault) → before ≡ None
+ok_quiet P done None again = refl
+ok_quiet P done (Some fault) again = absurd (none-some fault (ap fault_in again.0))
 
 -- where the refusal that is kept is BadIndex, it is the result
 pub err_of_kept : (r : Result (Unit {0}) ReadFault) (kept : Option ReadFault) → MatchResult r (λ done. kept ≡ None) (λ fault. kept ≡ Some fault)
@@ -98,6 +109,18 @@ module _ (old new : Head) (same : new ≡ old) (a b : Option (List StoreRead)) (
           → (d : Doc) → sound_for s held d old.key ≡ true → tells_file held d old.key ≡ true
       by None end d sound = sound
       by (Some all) end d sound = absurd end.1
+
+  -- the same of an opener that may have refused before
+  pub bad_index_so : (before : Option ReadFault) (result : Result (Unit {0}) ReadFault) (i : ℕ) (bytes : List ℕ)
+      → IfSome before (λ fault. (result ≡ Err fault) × (b ≡ a))
+      → (before ≡ Some BadIndex → FitsNone (MayBe a held old))
+      → (before ≡ None → IfSome b (λ all. FetchEnds result i old.header old.top old.key bytes (since all)))
+      → ((d : Doc) → HoldsDocument held d old.key → file_root d old.key ≡ root_by old.header old.top
+      → MatchResult result (λ done. bytes ≡ get_or (fragments (plain d)) i []) (λ fault. IsStoreFault fault))
+      → result ≡ Err BadIndex → FitsNone (MayBe b later new)
+  bad_index_so None result i bytes again was ends of_held is = bad_index_none result i bytes (ends refl) of_held is
+  bad_index_so (Some fault) result i bytes again was ends of_held is = λ stream may_be.
+      was (ap fault_in (sym again.0 ∙ is)) stream (same_stream again.1 stream may_be)
 
   -- the bytes given are the fragment of each stream that it may be
   pub fragment_given : (result : Result (Unit {0}) ReadFault) (i : ℕ) (bytes : List ℕ) → i < fragment_count old.header

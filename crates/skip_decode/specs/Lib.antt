@@ -1,5 +1,6 @@
 pub mod Building
 pub mod CheckedStream
+pub mod Different
 pub mod ExactSets
 pub mod FileWalk
 pub mod Fragments

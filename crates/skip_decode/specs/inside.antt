@@ -1,6 +1,7 @@
 pub mod CheckedLaws
 pub mod FileWalkLaws
 pub mod HeadReading
+pub mod IndexSets
 pub mod LevelsInMemory
 pub mod MemoryLaws
 pub mod Moves

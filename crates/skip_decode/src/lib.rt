@@ -10,6 +10,7 @@ mod fragments;
 mod head;
 mod head_read;
 mod height;
+mod index_set;
 mod laws;
 mod levels;
 mod memory;
@@ -19,6 +20,7 @@ mod reading;
 mod spot;
 mod start;
 mod start_fault;
+mod start_laws;
 mod step;
 mod stepping;
 mod steps;
@@ -32,6 +34,7 @@ pub use laws::{a_stream_is_of_one_document, events_build_their_document};
 pub use spot::SkipSpot;
 pub use start::SkipStart;
 pub use start_fault::StartFault;
+pub use start_laws::starts_open_no_fragment;
 pub use stream_laws::{
     heads_have_one_spelling, positions_move_along_the_events, small_streams_are_read,
     streams_have_one_spelling, streams_spell_documents, trees_have_one_spelling,

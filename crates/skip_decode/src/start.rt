@@ -3,7 +3,7 @@
 ghost use Rattle.std.specs.Prelude.{◌≡◌, ◌≢◌, ℕ, ◌*◌, ◌<◌, ◌≤◌, ◌++◌, true, None, List, length, take, drop, IfOk, IsErrOf, OnOk};
 ghost use Rattle.acl_model.specs.Dictionary.{dictionary_section, is_dictionary};
 ghost use Rattle.acl_walk.specs.Listed.{AreNames};
-ghost use Rattle.skip_decode.specs.CheckedStream.{Fetched, MayBe, opened_since, store_moment};
+ghost use Rattle.skip_decode.specs.CheckedStream.{Fetched, MayBe, OpenedNone, opened_since, store_moment};
 ghost use Rattle.skip_decode.specs.Fragments.{FitsNone, ForEach, Leads, Narrows};
 ghost use Rattle.skip_decode.specs.Starting.{AreNamesOfOrigins, IsOfNoOrigin, OpensNext, OpensSection, RefusesFront, RefusesStart, fragments_of};
 ghost use Rattle.skip_decode.specs.StoreWent.{AreGood};
@@ -13,7 +13,7 @@ use crate::checked::Checked;
 use crate::fragments::Fragments;
 use crate::start_fault::StartFault;
 use crate::window::{FRAGMENT, Window};
-use acl_outside::{ReadFault, Store};
+use acl_outside::{NoMemory, ReadFault, Store};
 use fragment_open::Opener;
 use std::alloc::Global;
 use tag_dictionary::{DictFault, Dictionary};
@@ -105,16 +105,19 @@ pub struct SkipStart<'a, S: Store> {
 }
 
 impl<'a, S: Store> SkipStart<'a, S> {
-    /// The start of a walk over the file of an opener that has refused nothing.
-    pub fn over(opener: Opener<'a, S>) -> SkipStart<'a, S>
+    /// The start of a walk over the file of an opener that has refused nothing and opened no fragment. This takes the
+    /// memory for the set of the fragments that the walk opens.
+    pub fn over(alloc: Global, opener: Opener<'a, S>) -> Result<SkipStart<'a, S>, NoMemory>
         requires quiet { opener.fault ≡ None }
-        ensures opener { result.window.source.opener ≡ opener.entry }
+        requires unopened { OpenedNone (S.served opener.store.now) }
+        ensures opener { IfOk result (λ start. start.window.source.opener ≡ opener.entry) }
         ensures good { AreGood (store_moment (S.served opener.entry.store.now)
             (S.holds opener.entry.store.now) (S.faults opener.entry.store.now) opener.entry.fault) }
     {
-        SkipStart {
-            window: Window::over(Checked { opener }),
-        }
+        let checked = Checked::over(alloc, opener)?;
+        Ok(SkipStart {
+            window: Window::over(checked),
+        })
     }
 
     /// Reads the names of the dictionary section. Only its fragments are opened, in ascending order. `BadIndex` comes

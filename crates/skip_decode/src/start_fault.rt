@@ -4,7 +4,7 @@ ghost use Rattle.std.specs.Prelude.{◌≡◌};
 ghost use Rattle.skip_decode.specs.declared.start_fault.StartFault.TheVariants as start;
 ghost use Rattle.skip_decode.specs.inside.StartFaults.{fault_of_index};
 
-use acl_outside::ReadFault;
+use acl_outside::{NoMemory, ReadFault};
 use std::alloc::{AllocError, AllocFailed};
 use tag_dictionary::DictFault;
 
@@ -13,7 +13,7 @@ use tag_dictionary::DictFault;
 pub enum StartFault {
     /// The store's bytes were refused, or the store failed.
     Read(ReadFault),
-    /// There was no memory for the dictionary.
+    /// There was no memory for the dictionary, or for the set of the fragments that were opened.
     NoMemory,
 }
 
@@ -33,6 +33,14 @@ impl From<DictFault> for StartFault {
             DictFault::BadIndex => StartFault::Read(ReadFault::BadIndex),
             DictFault::NoMemory => StartFault::NoMemory,
         }
+    }
+}
+
+impl From<NoMemory> for StartFault {
+    ghost from_gives = { λ _ made. made ≡ start.NoMemory };
+
+    fn from(_: NoMemory) -> StartFault {
+        StartFault::NoMemory
     }
 }
 

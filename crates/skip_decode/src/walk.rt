@@ -1,10 +1,11 @@
 //! The walk over a file in a store that nobody trusts. Each fragment is checked before it is read,
 //! and bytes that are of no document's stream are refused.
 
-ghost use Rattle.std.specs.Prelude.{◌≡◌, None, IfOk, length};
+ghost use Rattle.std.specs.Prelude.{◌≡◌, None, IfOk, IfSome, length};
 ghost use Rattle.acl_walk.specs.Listed.{AreNames};
 ghost use Rattle.merkle_chunks.specs.HeaderBytes.{IsInRange};
-ghost use Rattle.skip_decode.specs.CheckedStream.{Fetched, IsQuietWith, IsQuietWith-prop, MayBe, opened_since, store_moment};
+ghost use Rattle.skip_decode.specs.CheckedStream.{Fetched, IsQuietWith, IsQuietWith-prop, MayBe, OpenedNone, opened_since, store_moment};
+ghost use Rattle.skip_decode.specs.Different.{different};
 ghost use Rattle.skip_decode.specs.FileWalk.{numbers_in};
 ghost use Rattle.skip_decode.specs.Starting.{AreNamesOfOrigins, OpenedFirst, fragments_of};
 ghost use Rattle.skip_decode.specs.StoreWent.{AreGood};
@@ -82,11 +83,12 @@ impl<'a, S: Store> SkipWalk<'a, S> {
         }
     }
 
-    /// Reads the names of the file of an opener that has refused nothing, and makes a walk over it. The
-    /// contract says little about refusals. Where their causes or the store's count of faults matter,
+    /// Reads the names of the file of an opener that has refused nothing and opened no fragment, and makes a walk over
+    /// it. The contract says little about refusals. Where their causes or the store's count of faults matter,
     /// call [`SkipStart::over`], [`SkipStart::read_names`] and [`SkipWalk::over`] instead.
     pub fn start(alloc: Global, opener: Opener<'a, S>) -> Result<SkipWalk<'a, S>, StartFault>
         requires quiet { opener.fault ≡ None }
+        requires unopened { OpenedNone (S.served opener.store.now) }
         ensures same_store { IfOk result (λ walk. walk.window.source.opener.store.ghost_name
             ≡ opener.entry.store.ghost_name) }
         ensures went { IfOk result (λ walk.
@@ -112,7 +114,7 @@ impl<'a, S: Store> SkipWalk<'a, S> {
         ensures fault { IfOk result (λ walk. walk.fault ≡ None) }
         ensures taken { IfOk result (λ walk. walk.taken ≡ 0) }
     {
-        let mut start = SkipStart::over(opener);
+        let mut start = SkipStart::over(alloc, opener)?;
         let names = start.read_names(alloc)?;
         Ok(SkipWalk::over(start, names))
     }
@@ -129,6 +131,16 @@ impl<'a, S: Store> SkipWalk<'a, S> {
         ensures { result ≡ spot.now.place }
     {
         u64::from(spot.place())
+    }
+
+    /// The number of different fragments that were opened since the opener's start, those of the dictionary section
+    /// included. A fragment that was refused doesn't count.
+    pub fn opened(&self) -> u32
+        ensures { self.now.fault ≡ None
+            → IfSome (opened_since (S.served self.now.window.source.opener.store.now)) (λ indexes.
+            result ≡ different indexes) }
+    {
+        self.window.source.opened()
     }
 }
 

@@ -6,7 +6,7 @@ ghost use Rattle.acl_model.specs.declared.document.Doc.{Doc};
 use super::*;
 use acl_bits::{Piece, Row};
 use acl_model::{Doc, Element, Item, Name, Sequence, is_document};
-use acl_outside::{MemStore, ReadFault, SureStore};
+use acl_outside::{MemStore, ReadFault, Recorder, Store, SureStore};
 use acl_walk::{Event, Walk};
 use aes_block::Key128;
 use arrayvec::ArrayVec;
@@ -83,14 +83,29 @@ fn file_of(
 }
 
 /// A walk over a file with this root.
-fn walk_over<'a>(
+fn walk_over<'a, S: Store>(
     rt: &impl Abort,
     alloc: Global,
-    store: &'a mut SureStore,
+    store: &'a mut S,
     root: Digest,
-) -> SkipWalk<'a, SureStore> {
+) -> SkipWalk<'a, S> {
     let opener = Opener::start(store, root, KEY).expect(rt, "the file");
     SkipWalk::start(alloc, opener).expect(rt, "the names")
+}
+
+/// Takes the event at a spot.
+fn take<W: Walk>(rt: &impl Abort, walk: &mut W, spot: &mut W::Spot) -> Event
+    requires made { W.made (W.fixed walk.old) spot.old }
+    requires placed { W.broken walk.old ≡ None → (d : Doc) → W.is_origin (W.fixed walk.old) d
+        → W.sound walk.old d ≡ true → W.is_place (W.fixed walk.old) d spot.old }
+    ensures made { W.made (W.fixed walk.new) spot.new }
+    ensures placed { W.broken walk.new ≡ None → (d : Doc) → W.is_origin (W.fixed walk.new) d
+        → W.sound walk.new d ≡ true → W.is_place (W.fixed walk.new) d spot.new }
+{
+    match walk.next(spot) {
+        Ok(event) => event,
+        Err(_) => panic!(rt; "a refusal"),
+    }
 }
 
 /// Takes the event at a spot, and checks that it is this one.
@@ -102,10 +117,8 @@ fn expect<W: Walk>(rt: &impl Abort, walk: &mut W, spot: &mut W::Spot, want: &Eve
     ensures placed { W.broken walk.new ≡ None → (d : Doc) → W.is_origin (W.fixed walk.new) d
         → W.sound walk.new d ≡ true → W.is_place (W.fixed walk.new) d spot.new }
 {
-    match walk.next(spot) {
-        Ok(event) => assert!(rt; event == *want, "{event:?}"),
-        Err(_) => panic!(rt; "a refusal"),
-    }
+    let event = take(rt, walk, spot);
+    assert!(rt; event == *want, "{event:?}");
 }
 
 // The text of x is passed, which has 40 of the file's 41 fragments.
@@ -156,8 +169,38 @@ fn a_long_text_is_passed(rt: HostRuntime) -> Result<(), Fail> {
     expect(&rt, &mut walk, &mut spot, &Event::Finish { tag: 2 });
     expect(&rt, &mut walk, &mut spot, &Event::Finish { tag: 0 });
     expect(&rt, &mut walk, &mut spot, &Event::End);
+    assert_eq!(rt; walk.opened(), 2);
     assert_eq!(rt; walk.taken(), 10);
     assert_eq!(rt; walk.refusal(), None);
+    Ok(())
+}
+
+// The second position reads fragment 0 again, while the text's piece in fragment 1 is held.
+#[test]
+fn a_fragment_opened_again_is_not_counted_again(rt: HostRuntime) -> Result<(), Fail> {
+    let alloc = rt.alloc();
+    let doc = long_document(alloc)?;
+    assert!(rt; is_document(&doc));
+    let file = encode_file(alloc, &doc, KEY).expect(&rt, "a file");
+    let inner = SureStore::new(file.bytes.into_vec());
+    let mut store = Recorder::new(alloc, inner, 100, 10_000)?;
+    let mut walk = walk_over(&rt, alloc, &mut store, file.root);
+    assert_eq!(rt; walk.opened(), 1);
+    let mut spot = walk.new_spot(alloc)?;
+    take(&rt, &mut walk, &mut spot);
+    take(&rt, &mut walk, &mut spot);
+    take(&rt, &mut walk, &mut spot);
+    take(&rt, &mut walk, &mut spot);
+    take(&rt, &mut walk, &mut spot);
+    assert_eq!(rt; walk.opened(), 1);
+    take(&rt, &mut walk, &mut spot);
+    assert_eq!(rt; walk.opened(), 2);
+    let mut first = walk.new_spot(alloc)?;
+    take(&rt, &mut walk, &mut first);
+    assert_eq!(rt; walk.opened(), 2);
+    drop(walk);
+    let fragments = store.served().iter().filter(|read| read.asked == 256);
+    assert_eq!(rt; fragments.count(), 3);
     Ok(())
 }
 
