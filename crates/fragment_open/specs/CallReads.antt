@@ -52,3 +52,30 @@ GivesWhole (Err (WrongRoot want made)) at into all = ⊥
 GivesWhole (Err (WrongKey want made)) at into all = ⊥
 GivesWhole (Err (BadFragment index want made)) at into all = ⊥
 GivesWhole (Err BadIndex) at into all = ⊥
+
+-- ---- which faults there are
+
+-- The fault is that of a read: the store failed, or its bytes ended too early.
+abbrev pub IsReadFault : ReadFault → Type 0
+IsReadFault StoreFault = Unit {0}
+IsReadFault (StoreShort at) = Unit {0}
+IsReadFault BadHeader = ⊥
+IsReadFault (WrongRoot want made) = ⊥
+IsReadFault (WrongKey want made) = ⊥
+IsReadFault (BadFragment index want made) = ⊥
+IsReadFault BadIndex = ⊥
+
+-- The fault is that of a fetch: one of a read, or the refusal of a fragment by its digest.
+abbrev pub IsFetchFault : ReadFault → Type 0
+IsFetchFault StoreFault = Unit {0}
+IsFetchFault (StoreShort at) = Unit {0}
+IsFetchFault (BadFragment index want made) = Unit {0}
+IsFetchFault BadHeader = ⊥
+IsFetchFault (WrongRoot want made) = ⊥
+IsFetchFault (WrongKey want made) = ⊥
+IsFetchFault BadIndex = ⊥
+
+-- There is no fault, or it is that of a fetch.
+abbrev pub IsOfFetch : Option ReadFault → Type 0
+IsOfFetch None = Unit {0}
+IsOfFetch (Some fault) = IsFetchFault fault

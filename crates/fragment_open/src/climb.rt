@@ -6,7 +6,7 @@ ghost use Rattle.acl_outside.specs.Outside.{NotFallen, Rose};
 ghost use Rattle.merkle_chunks.specs.Table.{count_below, level_count, node_place, top_level};
 ghost use Rattle.fragment_open.specs.Asks.{has_sibling, index_at, sibling_of};
 ghost use Rattle.fragment_open.specs.Hashed.{parent_string};
-ghost use Rattle.fragment_open.specs.CallReads.{Told};
+ghost use Rattle.fragment_open.specs.CallReads.{IsReadFault, Told};
 ghost use Rattle.fragment_open.specs.inside.Climbing.{Climbs, Ends, IsNext, IsSibling, LacksSibling};
 ghost use Rattle.fragment_open.specs.Held.{GivesOrFails, HoldsFile, IsQuietElse, digest_held, sibling_held};
 
@@ -114,6 +114,7 @@ fn read_sibling<S: Store>(store: &mut S, climb: &Climb) -> Result<[u8; 32], Read
     ensures quiet { OnOk result (S.faults store.new ≡ S.faults store.old) }
     ensures quiet_else { IfErr result (λ fault.
         IsQuietElse fault (S.faults store.old) (S.faults store.new)) }
+    ensures only { IfErr result IsReadFault }
 {
     let mut digest = [0; 32];
     let sibling = climb.sibling();
@@ -143,6 +144,7 @@ fn step<S: Store>(store: &mut S, climb: Climb, last: &mut Last) -> Result<Climb,
     ensures quiet { OnOk result (S.faults store.new ≡ S.faults store.old) }
     ensures quiet_else { IfErr result (λ fault.
         IsQuietElse fault (S.faults store.old) (S.faults store.new)) }
+    ensures only { IfErr result IsReadFault }
 {
     let sibling = read_sibling(store, &climb)?;
     Ok(climb.above(&sibling, last))
@@ -173,6 +175,7 @@ pub(crate) fn climb_to<S: Store>(
     ensures quiet { OnOk result (S.faults store.new ≡ S.faults store.old) }
     ensures quiet_else { IfErr result (λ fault.
         IsQuietElse fault (S.faults store.old) (S.faults store.new)) }
+    ensures only { IfErr result IsReadFault }
 {
     let mut climb = from;
     'up: while climb.level < goal {

@@ -3,7 +3,7 @@ ghost use Rattle.std.specs.Prelude.{◌≡◌, ◌<◌, ◌≤◌, length, ℕ, 
 ghost use Rattle.acl_model.specs.declared.document.Doc.{Doc};
 ghost use Rattle.acl_outside.specs.Outside.{NotFallen, Rose};
 ghost use Rattle.merkle_chunks.specs.Table.{top_level};
-ghost use Rattle.fragment_open.specs.CallReads.{Told};
+ghost use Rattle.fragment_open.specs.CallReads.{IsReadFault, Told};
 ghost use Rattle.fragment_open.specs.inside.Climbing.{IsNotOpened, IsOpened};
 ghost use Rattle.fragment_open.specs.Held.{HoldsFile, IsOpenedHeld, IsQuietElse, IsStoreFault};
 
@@ -52,6 +52,7 @@ pub(crate) fn open_to<S: Store>(
     ensures quiet { OnOk result (S.faults store.new ≡ S.faults store.old) }
     ensures quiet_else { IfErr result (λ fault.
         IsQuietElse fault (S.faults store.old) (S.faults store.new)) }
+    ensures only { IfErr result IsReadFault }
 {
     let mut cipher = [0; 256];
     read_whole(store, 64 + 256 * u64::from(index), &mut cipher)?;

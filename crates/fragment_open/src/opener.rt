@@ -9,11 +9,11 @@ ghost use Rattle.merkle_chunks.specs.HeaderBytes.{fragment_count};
 ghost use Rattle.merkle_chunks.specs.File.{file_root};
 ghost use Rattle.merkle_chunks.specs.Table.{fragments};
 ghost use Rattle.fragment_open.specs.Checked.{AllFoldUnlessRefused, is_bad_fragment};
-ghost use Rattle.fragment_open.specs.CallReads.{Told};
+ghost use Rattle.fragment_open.specs.CallReads.{IsFetchFault, IsOfFetch, Told};
 ghost use Rattle.fragment_open.specs.Held.{IsQuietElse, IsStoreFault};
 ghost use Rattle.fragment_open.specs.Starting.{HoldsDocument, IsHeadOf, IsStarted, IsUnder};
 ghost use Rattle.fragment_open.specs.Settled.{AddsPlain, AreHeld, FetchEnds, IsQuietIfHeld, Opens, CompletesNone, Settled, goes_to_chunk, is_start, root_by, since, want_by};
-ghost use Rattle.fragment_open.specs.inside.SettledProps.{AreHeld-prop, IsQuietIfHeld-prop, Settled-prop};
+ghost use Rattle.fragment_open.specs.inside.SettledProps.{AreHeld-prop, IsOfFetch-prop, IsQuietIfHeld-prop, Settled-prop};
 
 use crate::head::{Head, begin};
 use crate::kept::Kept;
@@ -69,6 +69,7 @@ pub struct Opener<'a, S: Store> {
     ghost settled: { Settled (S.served store.now) head.header head.top kept fault } by { Settled-prop (S.served store.now) head.header head.top kept fault },
     ghost held: { AreHeld (S.holds store.now) head.header head.top head.key kept } by { AreHeld-prop (S.holds store.now) head.header head.top head.key kept },
     ghost quiet: { IsQuietIfHeld (S.holds store.now) head.header head.top head.key fault } by { IsQuietIfHeld-prop (S.holds store.now) head.header head.top head.key fault },
+    ghost only: { IsOfFetch fault } by { IsOfFetch-prop fault },
 }
 
 impl<'a, S: Store> Opener<'a, S> {
@@ -149,6 +150,7 @@ impl<'a, S: Store> Opener<'a, S> {
             (λ fault. IsStoreFault fault) }
 
         ensures untouched { OnErr result (into.new ≡ into.old) }
+        ensures only { IfErr result IsFetchFault }
         ensures stays { MatchResult result (λ done. self.new.fault ≡ None) (λ fault.
             self.new.fault ≡ Some fault) }
         ensures again { IfSome self.old.fault (λ fault. (result ≡ Err fault)
@@ -194,6 +196,7 @@ impl<'a, S: Store> Opener<'a, S> {
             (λ fault. IsStoreFault fault) }
 
         ensures untouched { OnErr result (into.new ≡ into.old) }
+        ensures only { IfErr result IsFetchFault }
         ensures stays { MatchResult result (λ done. self.new.fault ≡ None) (λ fault.
             self.new.fault ≡ Some fault) }
         ensures constant { S.holds self.new.store.now ≡ S.holds self.old.store.now }

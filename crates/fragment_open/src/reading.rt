@@ -2,7 +2,7 @@
 ghost use Rattle.std.specs.Prelude.{◌≡◌, ◌+◌, ◌^◌, ◌<◌, IfSome, IsErrOf, length, OnOk, IfErr};
 ghost use Rattle.acl_outside.specs.Outside.{NotFallen, Rose};
 ghost use Rattle.fragment_open.specs.Held.{IsQuietElse};
-ghost use Rattle.fragment_open.specs.CallReads.{GivesWhole, ReadsWhole, Told};
+ghost use Rattle.fragment_open.specs.CallReads.{GivesWhole, IsReadFault, ReadsWhole, Told};
 
 use acl_outside::{ReadFault, Store};
 
@@ -18,6 +18,7 @@ pub(crate) fn read_whole<S: Store>(store: &mut S, at: u64, into: &mut [u8]) -> R
     ensures quiet { OnOk result (S.faults store.new ≡ S.faults store.old) }
     ensures quiet_else { IfErr result (λ fault.
         IsQuietElse fault (S.faults store.old) (S.faults store.new)) }
+    ensures only { IfErr result IsReadFault }
 {
     let Ok(count) = store.read_at(at, into) else {
         return Err(ReadFault::StoreFault);

@@ -7,7 +7,7 @@ use Rattle.std.proofs.lemmas.Option.{none-some}
 use Rattle.acl_outside.specs.Outside.{NotFallen, Rose, StoreRead}
 use Rattle.acl_outside.specs.declared.read_fault.ReadFault.{ReadFault}
 use Rattle.acl_outside.specs.declared.read_fault.ReadFault.TheVariants.{BadFragment, BadHeader, BadIndex, StoreFault, StoreShort, WrongKey, WrongRoot}
-use Rattle.fragment_open.specs.CallReads.{Told, is_whole}
+use Rattle.fragment_open.specs.CallReads.{IsFetchFault, Told, is_whole}
 use Rattle.fragment_open.specs.Checked.{AllFoldUnlessRefused, is_bad_fragment}
 use Rattle.fragment_open.specs.Held.{IsQuietElse}
 use Rattle.fragment_open.specs.Served.{IsRegular}
@@ -55,24 +55,21 @@ module _ (index : ℕ) (old : Head) (bytes : List ℕ) (served : Option (List St
 
   -- why a fragment was refused
   cause_after : (r : Result (Unit {0}) ReadFault) (m n : ℕ) → IfSome served (λ all. FetchEnds r index old.header old.top old.key bytes (since all))
-      → (r ≡ Err StoreFault → Rose m n) → IfSome (fault_in r) (λ fault. IsCause fault m n served)
-  cause_after r m n ends rose = by r served ends rose
+      → (r ≡ Err StoreFault → Rose m n) → IfErr r IsFetchFault → IfSome (fault_in r) (λ fault. IsCause fault m n served)
+  cause_after r m n ends rose only = by r served ends rose only
     where
       by : (r : Result (Unit {0}) ReadFault) (s : Option (List StoreRead)) → IfSome s (λ all. FetchEnds r index old.header old.top old.key bytes (since all))
-          → (r ≡ Err StoreFault → Rose m n) → IfSome (fault_in r) (λ fault. IsCause fault m n s)
-      by (Ok done) s e rose = tt
-      by (Err StoreFault) s e rose = rose refl
-      by (Err BadIndex) s e rose = tt
-      by (Err BadHeader) None e rose = tt
-      by (Err (WrongRoot want made)) None e rose = tt
-      by (Err (WrongKey want made)) None e rose = tt
-      by (Err (StoreShort to)) None e rose = tt
-      by (Err (BadFragment refused want made)) None e rose = tt
-      by (Err BadHeader) (Some all) e rose = e.1
-      by (Err (WrongRoot want made)) (Some all) e rose = e.1
-      by (Err (WrongKey want made)) (Some all) e rose = e.1
-      by (Err (StoreShort to)) (Some all) e rose = e.1.0
-      by (Err (BadFragment refused want made)) (Some all) e rose =
+          → (r ≡ Err StoreFault → Rose m n) → IfErr r IsFetchFault → IfSome (fault_in r) (λ fault. IsCause fault m n s)
+      by (Ok done) s e rose only = tt
+      by (Err StoreFault) s e rose only = rose refl
+      by (Err BadIndex) s e rose only = tt
+      by (Err BadHeader) s e rose only = only
+      by (Err (WrongRoot want made)) s e rose only = only
+      by (Err (WrongKey want made)) s e rose only = only
+      by (Err (StoreShort to)) None e rose only = tt
+      by (Err (BadFragment refused want made)) None e rose only = tt
+      by (Err (StoreShort to)) (Some all) e rose only = e.1.0
+      by (Err (BadFragment refused want made)) (Some all) e rose only =
           let P : ℕ → Type 0 = λ n. IsFetchCause n (BadFragment refused want made) (since all) in subst P (sym e.1.0) e.1
 
   -- each opening folds to what is wanted, unless it was refused
@@ -94,9 +91,9 @@ pub fetched-one : (index : ℕ) (old new : Head) → new ≡ old → (a b : Opti
     → IfSome b (λ all. FetchEnds r index old.header old.top old.key bytes (since all))
     → IfSome b (λ all. AllFoldUnlessRefused (is_bad_fragment r) (since all))
     → (r ≡ Err StoreFault → Rose m n) → NotFallen m n → OnOk r (n ≡ m) → IfErr r (λ f. IsQuietElse f m n)
-    → IsQuietIfHeld later new.header new.top new.key fault
+    → IfErr r IsFetchFault → IsQuietIfHeld later new.header new.top new.key fault
     → Fetched old new (store_moment a held m None) (store_moment b later n fault)
-fetched-one index old new same a b held later constant m n bytes kept settled r fault stays grown ends checked rose never ok err of_held = record {
+fetched-one index old new same a b held later constant m n bytes kept settled r fault stays grown ends checked rose never ok err only of_held = record {
   head = same;
   was_sound = narrower_sound old new same a b held later constant kept settled grown;
   reads = subst (λ (o : Option ReadFault). StoreWent (store_moment a held m None) (store_moment b later n o)) (sym (kept_is r fault stays)) (record {
@@ -110,7 +107,7 @@ fetched-one index old new same a b held later constant m n bytes kept settled r 
     regular = λ are. regular_after index old bytes b r ends;
     whole = λ are. whole_after index old bytes b r ends;
     folds = λ all. folds_after index old bytes b r checked;
-    cause = λ none. cause_after index old bytes b r m n ends rose;
+    cause = λ none. cause_after index old bytes b r m n ends rose only;
   });
   held = λ d origin told none. of_held d (record {
     holds = file-told later d new.key told;

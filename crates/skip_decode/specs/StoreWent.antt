@@ -74,16 +74,16 @@ IsQuietUnlessFailed (Some fault) before after = IsQuietElse fault before after
 
 -- Why there is a refusal now, where there was none, by the count of faults before and after, and the good reads after.
 -- `StoreFault`: the count rose. `StoreShort`: the last read was short, and its bytes ended at this byte offset.
--- `BadFragment`: the newest opening is of this fragment and folds to `made`, and not to `want`, which is wanted. A
--- header, a root or a key is refused only at a start. Of `BadIndex` nothing is said here.
+-- `BadFragment`: the newest opening is of this fragment and folds to `made`, and not to `want`, which is wanted. No
+-- header, root or key is refused: these are checked before, when the opener is made. Of `BadIndex` nothing is said here.
 abbrev pub IsCause : ReadFault → ℕ → ℕ → Option (List StoreRead) → Type 0
 IsCause StoreFault before after served = Rose before after
 IsCause (StoreShort to) before after served = OfReads served (IsCut to)
 IsCause (BadFragment index want made) before after served =
     OfReads served (IsFetchCause index (BadFragment index want made))
-IsCause BadHeader before after served = OfReads served (λ reads. ⊥)
-IsCause (WrongRoot want made) before after served = OfReads served (λ reads. ⊥)
-IsCause (WrongKey want made) before after served = OfReads served (λ reads. ⊥)
+IsCause BadHeader before after served = ⊥
+IsCause (WrongRoot want made) before after served = ⊥
+IsCause (WrongKey want made) before after served = ⊥
 IsCause BadIndex before after served = Unit {0}
 
 -- A refusal that came between two moments has its cause.

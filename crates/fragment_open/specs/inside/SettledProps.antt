@@ -6,11 +6,12 @@ use Rattle.sha2.specs.Sha256.{sha256}
 use Rattle.acl_model.specs.declared.document.Doc.{Doc}
 use Rattle.acl_outside.specs.Outside.{StoreRead}
 use Rattle.acl_outside.specs.declared.read_fault.ReadFault.{ReadFault}
-use Rattle.acl_outside.specs.declared.read_fault.ReadFault.TheVariants.{StoreFault}
+use Rattle.acl_outside.specs.declared.read_fault.ReadFault.TheVariants.{BadFragment, BadHeader, BadIndex, StoreFault, StoreShort, WrongKey, WrongRoot}
 use Rattle.merkle_chunks.specs.HeaderBytes.{fragment_count}
 use Rattle.merkle_chunks.specs.declared.header.Header.{Header}
 use Rattle.fragment_open.specs.declared.kept.Kept.{Kept}
 use Rattle.fragment_open.specs.Openings.{Opening, openings}
+use Rattle.fragment_open.specs.CallReads.{IsFetchFault, IsOfFetch}
 use Rattle.fragment_open.specs.Good.{AllFoldAsWanted}
 use Rattle.fragment_open.specs.Held.{IsStoreFault}
 use Rattle.fragment_open.specs.Settled.{AreHeld, IsQuiet, IsQuietIfHeld, IsKept, IsKeptOf, IsSettled, Settled, since}
@@ -62,3 +63,18 @@ IsQuiet-prop (Some fault) = IsStoreFault-prop fault
 -- the same where the store holds the file
 pub IsQuietIfHeld-prop : (held : Option (List ℕ)) (header : Header) (top key : List ℕ) (fault : Option ReadFault) → IsProp (IsQuietIfHeld held header top key fault)
 IsQuietIfHeld-prop held header top key fault = hlevel (props, IsQuiet-prop)
+
+-- "the fault is that of a fetch" has at most one proof
+IsFetchFault-prop : (fault : ReadFault) → IsProp (IsFetchFault fault)
+IsFetchFault-prop StoreFault = hlevel props
+IsFetchFault-prop (StoreShort at) = hlevel props
+IsFetchFault-prop (BadFragment index want made) = hlevel props
+IsFetchFault-prop BadHeader = hlevel props
+IsFetchFault-prop (WrongRoot want made) = hlevel props
+IsFetchFault-prop (WrongKey want made) = hlevel props
+IsFetchFault-prop BadIndex = hlevel props
+
+-- "there is no fault, or it is that of a fetch" has at most one proof
+pub IsOfFetch-prop : (fault : Option ReadFault) → IsProp (IsOfFetch fault)
+IsOfFetch-prop None = hlevel props
+IsOfFetch-prop (Some fault) = IsFetchFault-prop fault

@@ -55,7 +55,7 @@ returns-in_err-fetch-clause-went g c = λ past led. (
         (g.S.Store.faults old.store.now) (g.S.Store.faults new.store.now) c.fetch.new.into
         old.kept (subst (Settled (g.S.Store.served old.store.now) old.head.header old.head.top old.kept) quiet old.settled)
         c.fetch.result new.fault c.fetch.ensures.stays c.fetch.ensures.grown (c.fetch.ensures.ends quiet) (c.fetch.ensures.checked quiet)
-        (c.fetch.ensures.cause quiet) c.fetch.ensures.never_falls (c.fetch.ensures.quiet quiet) (c.fetch.ensures.quiet_else quiet) new.quiet)
+        (c.fetch.ensures.cause quiet) c.fetch.ensures.never_falls (c.fetch.ensures.quiet quiet) (c.fetch.ensures.quiet_else quiet) c.fetch.ensures.only new.quiet)
     by (Some fault) refused =
         let old = c.args.self.now.opener in
         let new = c.fetch.new.self in
