@@ -120,6 +120,13 @@ behind-so start (suc n) index less =
     let count = over-some start (suc n) (omega arith) in
     omega (arith, less, count)
 
+-- Bytes that are in a fragment are some.
+pub bytes-some : (start count index : ℕ) → start / 256 ≤ index → index < start / 256 + fragments_over start count → 0 < count
+bytes-some start zero index above below =
+    let none : fragments_over start 0 ≡ 0 = refl in
+    absurd (omega (arith, above, below, none))
+bytes-some start (suc n) index above below = omega arith
+
 -- what was opened by reading some bytes
 module _ (w v : StraightMoment) (count : ℕ) (quiet : w.fault ≡ None) (within : v.fault ≡ None → w.place + count ≤ v.place) where
   opened-so : (before : List ℕ) → OpenedStraight w v before (touched w.place count before)
@@ -134,6 +141,10 @@ module _ (w v : StraightMoment) (count : ℕ) (quiet : w.fault ≡ None) (within
         behind = λ still i default less.
             let end = within still in
             let one = behind-so w.place count _ (t.below i default less) in
+            omega (arith, one, end);
+        moves = λ still some.
+            let end = within still in
+            let one = bytes-some w.place count _ (t.above 0 0 some) (t.below 0 0 some) in
             omega (arith, one, end);
       }
 

@@ -1,6 +1,6 @@
 -- Which fragments a walk over a file opens where it goes straight: by `next` at one spot and by passes of it. Defined by
 -- this project.
-use Rattle.std.specs.Prelude.{◌≡◌, ◌≢◌, ℕ, ◌+◌, ◌*◌, ◌<◌, ◌≤◌, Option, Some, None, List, [], ◌∷◌, ◌++◌, All}
+use Rattle.std.specs.Prelude.{◌≡◌, ◌≢◌, ℕ, ◌+◌, ◌*◌, ◌<◌, ◌≤◌, Option, Some, None, List, [], ◌∷◌, ◌++◌, All, length}
 use Rattle.acl_outside.specs.Outside.{StoreRead}
 use Rattle.acl_outside.specs.declared.read_fault.ReadFault.{ReadFault}
 use Rattle.skip_decode.specs.CheckedStream.{opened_since}
@@ -47,6 +47,9 @@ pub record OpenedStraight (w v : StraightMoment) (before after : List ℕ) : Typ
   pub ahead : All (λ index. w.place < 256 * (index + 1)) more
   -- Where there is no refusal, none begins at or after the second byte offset.
   pub behind : v.fault ≡ None → All (λ index. 256 * index < v.place) more
+  -- Where there is no refusal and a fragment was opened, the second byte offset is greater than the first. So each of
+  -- these fragments has a byte from the first offset on and before the second.
+  pub moves : v.fault ≡ None → 0 < length more → w.place < v.place
 
 -- The same, where they are told. They are told after exactly where they were told before.
 abbrev pub OpensStraight : StraightMoment → StraightMoment → Option (List ℕ) → Option (List ℕ) → Type 0

@@ -1,5 +1,5 @@
 -- The laws of going straight, as the trait `Walk` has them.
-use Rattle.std.proofs.Common.{◌≡◌, ℕ, ◌+◌, ◌*◌, ◌<◌, ◌≤◌, Option, Some, None, List, [], ◌∷◌, ◌++◌, append_assoc, refl, ap, sym, ◌∙◌, subst, arith, All}
+use Rattle.std.proofs.Common.{◌≡◌, ℕ, ◌+◌, ◌*◌, ◌<◌, ◌≤◌, ◌⊎◌, Option, Some, None, List, [], ◌∷◌, ◌++◌, length, append_assoc, refl, ap, sym, ◌∙◌, subst, inl, inr, arith, All}
 use Rattle.std.proofs.lemmas.List.Elements.{All-append, All-head, All-nil, All-tail}
 use Rattle.std.proofs.lemmas.Option.{none-some}
 use Rattle.acl_outside.specs.declared.read_fault.ReadFault.{ReadFault}
@@ -16,6 +16,7 @@ opened-nothing w v (Some before) = record {
   apart = tt;
   ahead = All-nil (λ index. w.place < 256 * (index + 1));
   behind = λ quiet. All-nil (λ index. 256 * index < v.place);
+  moves = λ quiet some. omega (arith, some);
 }
 
 -- A spot that goes on without an opening, in a walk that stays as it is.
@@ -49,6 +50,11 @@ apart-append (i ∷ k ∷ second) first before apart begins = apart-append (k �
 All-so : {P Q : ℕ → Type 0} (list : List ℕ) → ((i : ℕ) → P i → Q i) → All P list → All Q list
 All-so list so all = λ i default less. so _ (all i default less)
 
+-- of fragments that were opened in two stretches, some were opened in one of them
+some-append : (second first : List ℕ) → 0 < length (second ++ first) → (0 < length second) ⊎ (0 < length first)
+some-append [] first some = inr some
+some-append (i ∷ second) first some = inl (omega arith)
+
 module _ (u v w : StraightMoment) (first : WentStraight u v) (second : WentStraight v w) where
   -- the middle moment has no refusal, if the last has none
   quiet-middle : w.fault ≡ None → v.fault ≡ None
@@ -66,8 +72,19 @@ module _ (u v w : StraightMoment) (first : WentStraight u v) (second : WentStrai
     apart = apart-append two.more one.more a apart one.apart;
     ahead = All-append (λ index. u.place < 256 * (index + 1)) two.more one.more (All-so {P = λ index. v.place < 256 * (index + 1)} {Q = λ index. u.place < 256 * (index + 1)} two.more (λ i more. let rises = first.rises quiet in omega (arith, more, rises)) two.ahead) one.ahead;
     behind = λ still. All-append (λ index. 256 * index < w.place) two.more one.more (two.behind still) (All-so {P = λ index. 256 * index < v.place} {Q = λ index. 256 * index < w.place} one.more (λ i less. let rises = second.rises still in omega (arith, less, rises)) (one.behind quiet));
+    moves = λ still some. moved still (some-append two.more one.more some);
   }
     where
+      moved : w.fault ≡ None → (0 < length two.more) ⊎ (0 < length one.more) → u.place < w.place
+      moved still (inl some) =
+          let rises = first.rises quiet in
+          let more = two.moves still some in
+          omega (arith, rises, more)
+      moved still (inr some) =
+          let rises = second.rises still in
+          let more = one.moves quiet some in
+          omega (arith, rises, more)
+
       apart : BeginsApart two.more (one.more ++ a)
       apart = subst (λ (l : List ℕ). BeginsApart two.more l) one.are two.apart
 
@@ -91,6 +108,7 @@ module _ (u v w : StraightMoment) (first : WentStraight u v) (second : WentStrai
     apart = one.apart;
     ahead = one.ahead;
     behind = λ quiet. absurd (none-some fault (sym quiet ∙ (second.stays fault is).0));
+    moves = λ quiet some. absurd (none-some fault (sym quiet ∙ (second.stays fault is).0));
   }
 
   pub straight-onward : WentStraight u w
