@@ -102,7 +102,7 @@ bad-reads w v reads = record {
 }
 
 -- where the file is held that a document has, a walk is sound for it
-held-sound : (served : Option (List StoreRead)) (held : Option (List ℕ)) (d : Doc) (key : List ℕ) → tells_file held d key ≡ true → sound_for served held d key ≡ true
+pub held-sound : (served : Option (List StoreRead)) (held : Option (List ℕ)) (d : Doc) (key : List ℕ) → tells_file held d key ≡ true → sound_for served held d key ≡ true
 held-sound served held d key told = ap (λ b. agrees_with served d key || b) told ∙ or-true (agrees_with served d key)
   where
     or-true : (b : Bool) → (b || true) ≡ true

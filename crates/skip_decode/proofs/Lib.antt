@@ -51,6 +51,7 @@ pub mod Sizes
 pub mod SmallStreams
 pub mod SpotHeads
 pub mod SpotLaws
+pub mod StartRefusals
 pub mod Starts
 pub mod StepBounds
 pub mod StepKinds

@@ -5,7 +5,8 @@ use Rattle.acl_model.specs.Dictionary.{dictionary}
 use Rattle.acl_model.specs.declared.document.Doc.{Doc}
 use Rattle.acl_outside.specs.Outside.{StoreRead}
 use Rattle.acl_outside.specs.declared.read_fault.ReadFault.{ReadFault}
-use Rattle.acl_outside.specs.declared.read_fault.ReadFault.TheVariants.{BadIndex}
+use Rattle.acl_outside.specs.declared.read_fault.ReadFault.TheVariants.{BadFragment, BadHeader, BadIndex, StoreFault, StoreShort, WrongKey, WrongRoot}
+use Rattle.fragment_open.specs.Held.{IsStoreFault}
 use Rattle.fragment_open.specs.Sound.{IsOrigin, sound_for}
 use Rattle.fragment_open.specs.declared.head.Head.{Head}
 use Rattle.skip_decode.specs.declared.start_fault.StartFault.{StartFault}
@@ -24,6 +25,23 @@ RefusesStart (Ok done) before after = after ≡ before
 RefusesStart (Err NoMemory) before after = after ≡ before
 RefusesStart (Err (Read fault)) before after =
     (after ≡ Some fault) ⊎ ((fault ≡ BadIndex) × (after ≡ before))
+
+-- There was no memory, or the refusal is one of a fetch or of the dictionary's bytes. It is never that of a header, a
+-- root or a key.
+abbrev pub IsStartFault : StartFault → Type 0
+IsStartFault NoMemory = Unit {0}
+IsStartFault (Read StoreFault) = Unit {0}
+IsStartFault (Read (StoreShort at)) = Unit {0}
+IsStartFault (Read (BadFragment index want made)) = Unit {0}
+IsStartFault (Read BadIndex) = Unit {0}
+IsStartFault (Read BadHeader) = ⊥
+IsStartFault (Read (WrongRoot want made)) = ⊥
+IsStartFault (Read (WrongKey want made)) = ⊥
+
+-- There was no memory, or the store failed. The bytes that it gave were not refused.
+abbrev pub IsStartFailure : StartFault → Type 0
+IsStartFailure NoMemory = Unit {0}
+IsStartFailure (Read fault) = IsStoreFault fault
 
 -- ---- the fragments of the section
 

@@ -1,13 +1,15 @@
 //! The walk over a file in a store that nobody trusts. Each fragment is checked before it is read,
 //! and bytes that are of no document's stream are refused.
 
-ghost use Rattle.std.specs.Prelude.{◌≡◌, None, IfOk, IfSome, length};
+ghost use Rattle.std.specs.Prelude.{◌≡◌, true, None, IfErr, IfOk, IfSome, length};
+ghost use Rattle.acl_model.specs.declared.document.Doc.{Doc};
 ghost use Rattle.acl_walk.specs.Listed.{AreNames};
+ghost use Rattle.fragment_open.specs.Sound.{IsOrigin, tells_file};
 ghost use Rattle.merkle_chunks.specs.HeaderBytes.{IsInRange};
 ghost use Rattle.skip_decode.specs.CheckedStream.{Fetched, IsQuietWith, IsQuietWith-prop, MayBe, OpenedNone, opened_since, store_moment};
 ghost use Rattle.skip_decode.specs.Different.{different};
 ghost use Rattle.skip_decode.specs.FileWalk.{numbers_in};
-ghost use Rattle.skip_decode.specs.Starting.{AreNamesOfOrigins, OpenedFirst, fragments_of};
+ghost use Rattle.skip_decode.specs.Starting.{AreNamesOfOrigins, IsStartFailure, IsStartFault, OpenedFirst, fragments_of};
 ghost use Rattle.skip_decode.specs.StoreWent.{AreGood};
 ghost use Rattle.skip_decode.specs.inside.Windows.{IsHeld, IsHeld-prop, IsNewest, IsNewestUnless, IsNewestUnless-prop};
 
@@ -84,8 +86,9 @@ impl<'a, S: Store> SkipWalk<'a, S> {
     }
 
     /// Reads the names of the file of an opener that has refused nothing and opened no fragment, and makes a walk over
-    /// it. The contract says little about refusals. Where their causes or the store's count of faults matter,
-    /// call [`SkipStart::over`], [`SkipStart::read_names`] and [`SkipWalk::over`] instead.
+    /// it. Where the store holds the file of a document of which the opener's file may be, the errors are `NoMemory`
+    /// and `StoreFault`. Where the causes of other refusals or the store's count of faults matter, call
+    /// [`SkipStart::over`], [`SkipStart::read_names`] and [`SkipWalk::over`] instead.
     pub fn start(alloc: Global, opener: Opener<'a, S>) -> Result<SkipWalk<'a, S>, StartFault>
         requires quiet { opener.fault ≡ None }
         requires unopened { OpenedNone (S.served opener.store.now) }
@@ -113,6 +116,11 @@ impl<'a, S: Store> SkipWalk<'a, S> {
             (S.holds walk.window.source.opener.store.now) walk.names) }
         ensures fault { IfOk result (λ walk. walk.fault ≡ None) }
         ensures taken { IfOk result (λ walk. walk.taken ≡ 0) }
+        ensures held { (d : Doc) → IsOrigin
+            opener.entry.head.header opener.entry.head.top opener.entry.head.key d
+            → tells_file (S.holds opener.entry.store.now) d opener.entry.head.key ≡ true
+            → IfErr result IsStartFailure }
+        ensures only { IfErr result IsStartFault }
     {
         let mut start = SkipStart::over(alloc, opener)?;
         let names = start.read_names(alloc)?;
