@@ -1,3 +1,6 @@
 pub mod StateLists
+pub mod PredLists
+pub mod TableLaws
+pub mod ReadLaws
 pub mod TagLaws
 pub mod RunLaws

@@ -53,7 +53,7 @@ pub states_from-drop_all : (names : List (List ℕ)) (rules : List Rule) (k : �
 states_from-drop_all names rules k past = ap (states_from names k) (drop_all k rules past)
 
 -- there is one state for each step
-length-rule_states : (names : List (List ℕ)) (rule : ℕ) (steps : List Step) → length (rule_states names rule steps) ≡ length steps
+pub length-rule_states : (names : List (List ℕ)) (rule : ℕ) (steps : List Step) → length (rule_states names rule steps) ≡ length steps
 length-rule_states names rule [] = refl
 length-rule_states names rule (s ∷ steps) = ap suc (length-rule_states names rule steps)
 

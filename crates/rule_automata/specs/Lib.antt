@@ -1,3 +1,5 @@
 pub mod Compile
 pub mod Run
 pub mod Meaning
+pub mod ReadBack
+pub mod inside

@@ -1,6 +1,6 @@
 //! Turns rules into tables.
 
-ghost use Rattle.std.specs.Prelude.{◌≡◌, ◌≤◌, ◌<◌, ◌+◌, ◌++◌, IfOk, IfSome, length, true};
+ghost use Rattle.std.specs.Prelude.{◌≡◌, ◌≤◌, ◌<◌, ◌++◌, IfOk, IfSome, length};
 ghost use Rattle.acl_model.specs.Limits.{most_names, most_rules};
 ghost use Rattle.acl_model.specs.Dictionary.{name_number};
 ghost use Rattle.acl_model.specs.Document.{is_dummy_name};
@@ -8,6 +8,7 @@ ghost use Rattle.acl_model.specs.Explain.{is_same_sign};
 ghost use Rattle.acl_model.specs.RuleNumbers.{numbers_of_sign};
 ghost use Rattle.rule_automata.specs.Compile.{AreWithinLimits, automata_of, rule_states, tag_test};
 
+use crate::preds::find_preds;
 use crate::state::{State, TagTest};
 use crate::tables::Tables;
 use acl_bits::Row;
@@ -15,7 +16,7 @@ use acl_model::{Name, Rule, Sign, Step, Test};
 use acl_outside::NoMemory;
 use std::alloc::{AllocError, Global};
 
-/// The tables of rules without predicates. A tag is the number of a name among `names`.
+/// The tables of rules. A tag is the number of a name among `names`.
 #[tactic(auto, using(crate::proofs::StateLists::table_steps))]
 pub fn compile(alloc: Global, rules: &[Rule], names: &[Name]) -> Result<Tables, NoMemory>
     requires { AreWithinLimits names.now rules.now }
@@ -25,8 +26,10 @@ pub fn compile(alloc: Global, rules: &[Rule], names: &[Name]) -> Result<Tables, 
     for (number, rule) in rules.iter().enumerate() {
         add_states(&mut states, number as u8, rule.path.steps.as_slice(), names)?;
     }
+    let preds = find_preds(alloc, rules, names)?;
     Ok(Tables::from_parts(
         states,
+        preds,
         numbered(rules, Sign::Grant),
         numbered(rules, Sign::Deny),
     ))
@@ -55,7 +58,7 @@ fn add_states(
 }
 
 /// The test of tags for a step's test of names.
-fn tag_test(test: &Test, names: &[Name]) -> TagTest
+pub(crate) fn tag_test(test: &Test, names: &[Name]) -> TagTest
     requires { length names.now ≤ most_names }
     ensures { result ≡ tag_test names.now test.now }
 {
