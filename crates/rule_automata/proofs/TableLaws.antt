@@ -43,14 +43,17 @@ no_element x h = subst (λ o. MatchOption o (Unit {0}) (λ _. ⊥)) h tt
 
 -- ---- the suffixes of one path
 
-way_first : (names : List (List ℕ)) (way : List PredStep) → slice_get (way_suffixes names way) 0 ≡ Some (record { step = None })
+way_first : (names : List (List ℕ)) (way : List PredStep)
+    → slice_get (way_suffixes names way) 0 ≡ Some (record { step = None })
 way_first names [] = refl
 way_first names (s ∷ way) =
     let long = length-way_suffixes names way in
-    get-left (way_suffixes names way) (record { step = Some (suffix_step names s) } ∷ []) 0 (omega (arith, long)) ∙ way_first names way
+    get-left (way_suffixes names way) (record { step = Some (suffix_step names s) } ∷ []) 0 (omega (arith, long))
+    ∙ way_first names way
 
 -- the suffix that begins with step k is k before the whole path
-way_at : (names : List (List ℕ)) (way : List PredStep) (k m : ℕ) (s : PredStep) → slice_get way k ≡ Some s → m + k ≡ length way
+way_at : (names : List (List ℕ)) (way : List PredStep) (k m : ℕ) (s : PredStep) → slice_get way k ≡ Some s
+    → m + k ≡ length way
     → slice_get (way_suffixes names way) m ≡ Some (record { step = Some (suffix_step names s) })
 way_at names [] k m s at is = absurd (no_element s at)
 way_at names (t ∷ way) zero m s at is =
@@ -69,7 +72,8 @@ pub record LieAt (names : List (List ℕ)) (all : List Suffix) (first : ℕ) (wa
   pub longer : (k m : ℕ) (s : PredStep) → slice_get way k ≡ Some s → m + k ≡ first + length way
       → slice_get all m ≡ Some (record { step = Some (suffix_step names s) })
 
-pub lie_between : (names : List (List ℕ)) (before after all : List Suffix) (way : List PredStep) → before ++ (way_suffixes names way ++ after) ≡ all → LieAt names all (length before) way
+pub lie_between : (names : List (List ℕ)) (before after all : List Suffix) (way : List PredStep)
+    → before ++ (way_suffixes names way ++ after) ≡ all → LieAt names all (length before) way
 lie_between names before after all way is =
     let long = length-way_suffixes names way in
     let a = length-append before (way_suffixes names way ++ after) in
@@ -102,7 +106,8 @@ lie_long : (names : List (List ℕ)) (all : List Suffix) (first : ℕ) (way : Li
 lie_long names all first way lie n low high =
     let k : ℕ = first + length way - n in
     let found : (s : PredStep) × (slice_get way k ≡ Some s) = inside_some way k (omega (arith, low, high)) in
-    ap (λ (o : Option Suffix). option_map_or (λ suffix. is_some suffix.step) o false) (lie.longer k n found.0 found.1 (omega (arith, low, high)))
+    ap (λ (o : Option Suffix). option_map_or (λ suffix. is_some suffix.step) o false)
+    (lie.longer k n found.0 found.1 (omega (arith, low, high)))
 
 -- ---- all predicates
 
@@ -113,21 +118,26 @@ record LiesRight (all : List Suffix) (b : Bearing) : Type 0 where
   empty : slice_get all b.first ≡ Some (record { step = None })
   longer : (n : ℕ) → b.first < n → n ≤ b.whole → has_step_at all n ≡ true
 
-lies_right : (names : List (List ℕ)) (all : List Suffix) (first : ℕ) (p : StepPred) → LieAt names all first p.pred.way → LiesRight all (bearing_of first p)
-lies_right names all first p lie = record { order = omega arith; within = lie.within; empty = lie.empty; longer = lie_long names all first p.pred.way lie }
+lies_right : (names : List (List ℕ)) (all : List Suffix) (first : ℕ) (p : StepPred) → LieAt names all first p.pred.way
+    → LiesRight all (bearing_of first p)
+lies_right names all first p lie = record
+    { order = omega arith; within = lie.within; empty = lie.empty; longer = lie_long names all first p.pred.way lie }
 
 -- the next predicate's suffixes come after those of this one
-pub next_before : (names : List (List ℕ)) (before all : List Suffix) (p : StepPred) (ps : List StepPred) → before ++ suffixes_of names (p ∷ ps) ≡ all
+pub next_before : (names : List (List ℕ)) (before all : List Suffix) (p : StepPred) (ps : List StepPred)
+    → before ++ suffixes_of names (p ∷ ps) ≡ all
     → (before ++ way_suffixes names p.pred.way) ++ suffixes_of names ps ≡ all
 next_before names before all p ps is = append_assoc before (way_suffixes names p.pred.way) (suffixes_of names ps) ∙ is
 
-pub next_first : (names : List (List ℕ)) (before : List Suffix) (p : StepPred) → length (before ++ way_suffixes names p.pred.way) ≡ length before + length p.pred.way + 1
+pub next_first : (names : List (List ℕ)) (before : List Suffix) (p : StepPred)
+    → length (before ++ way_suffixes names p.pred.way) ≡ length before + length p.pred.way + 1
 next_first names before p =
     let a = length-append before (way_suffixes names p.pred.way) in
     let b = length-way_suffixes names p.pred.way in
     omega (arith, a, b)
 
-all_lie_right : (names : List (List ℕ)) (before all : List Suffix) (ps : List StepPred) → before ++ suffixes_of names ps ≡ all → All (LiesRight all) (bearings_from (length before) ps)
+all_lie_right : (names : List (List ℕ)) (before all : List Suffix) (ps : List StepPred)
+    → before ++ suffixes_of names ps ≡ all → All (LiesRight all) (bearings_from (length before) ps)
 all_lie_right names before all [] is = All-nil (LiesRight all)
 all_lie_right names before all (p ∷ ps) is =
     All-cons (LiesRight all) (bearing_of (length before) p) (bearings_from (length before + length p.pred.way + 1) ps)
@@ -135,12 +145,14 @@ all_lie_right names before all (p ∷ ps) is =
     (subst (λ n. All (LiesRight all) (bearings_from n ps)) (next_first names before p)
     (all_lie_right names (before ++ way_suffixes names p.pred.way) all ps (next_before names before all p ps is)))
 
-all_in_turn : (names : List (List ℕ)) (count first : ℕ) (ps : List StepPred) → first + length (suffixes_of names ps) ≡ count → are_in_turn count first (bearings_from first ps) ≡ true
+all_in_turn : (names : List (List ℕ)) (count first : ℕ) (ps : List StepPred)
+    → first + length (suffixes_of names ps) ≡ count → are_in_turn count first (bearings_from first ps) ≡ true
 all_in_turn names count first [] is = grind (arith, nat_tests)
 all_in_turn names count first (p ∷ ps) is =
     let here : nat_eq first first ≡ true = grind (arith, nat_tests) in
     let counted = length-suffixes_of-cons names p ps in
-    ap (λ b. b && are_in_turn count (first + length p.pred.way + 1) (bearings_from (first + length p.pred.way + 1) ps)) here
+    ap (λ b. b && are_in_turn count (first + length p.pred.way + 1)
+    (bearings_from (first + length p.pred.way + 1) ps)) here
     ∙ all_in_turn names count (first + length p.pred.way + 1) ps (omega (arith, counted, is))
 
 -- ---- the steps of predicates
@@ -152,13 +164,15 @@ StepsBelow n ps = All (λ p. p.step < n) ps
 at_below : (n step : ℕ) (preds : List Pred) → step < n → StepsBelow n (preds_at step preds)
 unfolding StepsBelow
 at_below n step [] below = All-nil (λ p. p.step < n)
-at_below n step (p ∷ preds) below = All-cons (λ q. q.step < n) (record { step = step; pred = p }) (preds_at step preds) below (at_below n step preds below)
+at_below n step (p ∷ preds) below = All-cons (λ q. q.step < n) (record { step = step; pred = p })
+    (preds_at step preds) below (at_below n step preds below)
 
 of_steps_below : (n step : ℕ) (steps : List Step) → step + length steps ≤ n → StepsBelow n (preds_of_steps step steps)
 unfolding StepsBelow
 of_steps_below n step [] below = All-nil (λ p. p.step < n)
 of_steps_below n step (s ∷ steps) below =
-    All-append (λ p. p.step < n) (preds_at step s.preds) (preds_of_steps (step + 1) steps) (at_below n step s.preds (omega (arith, below))) (of_steps_below n (step + 1) steps (omega (arith, below)))
+    All-append (λ p. p.step < n) (preds_at step s.preds) (preds_of_steps (step + 1) steps)
+    (at_below n step s.preds (omega (arith, below))) (of_steps_below n (step + 1) steps (omega (arith, below)))
 
 from_below : (n step : ℕ) (rules : List Rule) → step + steps_in rules ≤ n → StepsBelow n (preds_from step rules)
 unfolding StepsBelow
@@ -166,13 +180,16 @@ from_below n step [] below = All-nil (λ p. p.step < n)
 from_below n step (r ∷ rules) below =
     let counted = sum_by-cons (λ (x : Rule). length x.path.steps) r rules in
     All-append (λ p. p.step < n) (preds_of_steps step r.path.steps) (preds_from (step + length r.path.steps) rules)
-    (of_steps_below n step r.path.steps (omega (arith, below, counted))) (from_below n (step + length r.path.steps) rules (omega (arith, below, counted)))
+    (of_steps_below n step r.path.steps (omega (arith, below, counted)))
+    (from_below n (step + length r.path.steps) rules (omega (arith, below, counted)))
 
-bearings_below : (n first : ℕ) (ps : List StepPred) → StepsBelow n ps → All (λ (b : Bearing). b.step < n) (bearings_from first ps)
+bearings_below : (n first : ℕ) (ps : List StepPred) → StepsBelow n ps
+    → All (λ (b : Bearing). b.step < n) (bearings_from first ps)
 unfolding StepsBelow
 bearings_below n first [] below = All-nil (λ b. b.step < n)
 bearings_below n first (p ∷ ps) below =
-    All-cons (λ b. b.step < n) (bearing_of first p) (bearings_from (first + length p.pred.way + 1) ps) (All-head (λ q. q.step < n) p ps below)
+    All-cons (λ b. b.step < n) (bearing_of first p) (bearings_from (first + length p.pred.way + 1) ps)
+    (All-head (λ q. q.step < n) p ps below)
     (bearings_below n (first + length p.pred.way + 1) ps (All-tail (λ q. q.step < n) p ps below))
 
 -- ---- counts
@@ -204,13 +221,15 @@ length-preds_from step (r ∷ rules) =
     let counted = sum_by-cons (λ (x : Rule). preds_in_steps x.path.steps) r rules in
     omega (arith, joined, here, rest, counted)
 
-pub length-bearings : (first step : ℕ) (rules : List Rule) → length (bearings_from first (preds_from step rules)) ≡ preds_in rules
+pub length-bearings : (first step : ℕ) (rules : List Rule)
+    → length (bearings_from first (preds_from step rules)) ≡ preds_in rules
 length-bearings first step rules = length-bearings_from first (preds_from step rules) ∙ length-preds_from step rules
 
 -- ---- the invariant
 
 -- The tables of rules within the limits keep it.
-pub are_tables : (names : List (List ℕ)) (rules : List Rule) → AreWithinLimits names rules → AreTables (automata_of names rules)
+pub are_tables : (names : List (List ℕ)) (rules : List Rule) → AreWithinLimits names rules
+    → AreTables (automata_of names rules)
 are_tables names rules limits =
     let preds : List StepPred = preds_from 0 rules in
     let all : List Suffix = suffixes_of names preds in
@@ -223,10 +242,14 @@ are_tables names rules limits =
       closed = closed-states_from names rules 0;
       few_suffixes = omega (arith, suffixes, limits.few_pred_steps, limits.few_preds);
       few_bearings = omega (arith, bearings, limits.few_preds);
-      steps = bearings_below (length (states_from names 0 rules)) 0 preds (from_below (length (states_from names 0 rules)) 0 rules (omega (arith, states)));
+      steps = bearings_below (length (states_from names 0 rules)) 0 preds
+          (from_below (length (states_from names 0 rules)) 0 rules (omega (arith, states)));
       order = All-weaker (LiesRight all) (λ b. b.first ≤ b.whole) (λ b lies. lies.order) (bearings_from 0 preds) right;
-      within = All-weaker (LiesRight all) (λ b. b.whole < length all) (λ b lies. lies.within) (bearings_from 0 preds) right;
+      within = All-weaker (LiesRight all) (λ b. b.whole < length all) (λ b lies. lies.within)
+          (bearings_from 0 preds) right;
       in_turn = all_in_turn names (length all) 0 preds (omega arith);
-      empty = All-weaker (LiesRight all) (λ b. slice_get all b.first ≡ Some (record { step = None })) (λ b lies. lies.empty) (bearings_from 0 preds) right;
-      longer = All-weaker (LiesRight all) (λ b. (n : ℕ) → b.first < n → n ≤ b.whole → has_step_at all n ≡ true) (λ b lies. lies.longer) (bearings_from 0 preds) right;
+      empty = All-weaker (LiesRight all) (λ b. slice_get all b.first ≡ Some (record { step = None }))
+          (λ b lies. lies.empty) (bearings_from 0 preds) right;
+      longer = All-weaker (LiesRight all) (λ b. (n : ℕ) → b.first < n → n ≤ b.whole → has_step_at all n ≡ true)
+          (λ b lies. lies.longer) (bearings_from 0 preds) right;
     }

@@ -21,7 +21,7 @@ bearing_number rules rule steps step pred =
     preds_in (take rule rules) + (preds_in_steps (take step steps) + pred)
 
 -- Tables have a predicate at the step whose state has the number `step`. Its bearing has the number n and is a copy of
--- what it asks for. The suffixes from `first` to `whole` are those of its path: the one at `first` is empty, and the one
+-- what it asks for. The suffixes from `first` to `whole` are those of its path. The one at `first` is empty. The one
 -- that begins with the path's step number k, counted from 0, is k before the whole path.
 pub record HavePred (names : List (List ℕ)) (tables : Automata) (n step : ℕ) (pred : Pred) : Type 0 where
   pub bearing : Bearing

@@ -40,8 +40,8 @@ pub fn states_take_the_rules_that_select()
 {}
 
 /// Tables have one state for each step of their rules, and each rule ends with one of its states. The state of a step
-/// is found by how many steps come before it. It has the step's axis and its test of tags, and ends the rule where it is
-/// the path's last step.
+/// is found by how many steps come before it. It has the step's axis and its test of tags, and ends the rule where the
+/// step is the path's last.
 pub fn a_step_has_a_state()
     ensures count { (names : List (List ℕ)) (rules : List Rule)
         → length (automata_of names rules).states ≡ steps_in rules }

@@ -8,6 +8,15 @@ use acl_model::{
 use std::alloc::{AllocError, Global};
 use std::test::Fail;
 
+/// Names, in the order of their tags.
+fn names(alloc: Global, texts: &[&str]) -> Result<Vec<Name>, AllocError> {
+    let mut names = Vec::new(alloc);
+    for text in texts {
+        names.push(Name::from_slice(alloc, text.as_bytes())?)?;
+    }
+    Ok(names)
+}
+
 /// The test of this name. The name `*` gives the test for each name.
 fn test(alloc: Global, name: &str) -> Result<Test, AllocError> {
     if name == "*" {
@@ -41,11 +50,7 @@ fn rule(alloc: Global, sign: Sign, path: &[(Axis, &str)]) -> Result<Rule, AllocE
 #[test]
 fn a_rule_has_a_state_for_each_step(rt: HostRuntime) -> Result<(), Fail> {
     let alloc = rt.alloc();
-    let names = vec![in alloc;
-        Name::from_slice(alloc, b"Hospital")?,
-        Name::from_slice(alloc, b"Folder")?,
-        Name::from_slice(alloc, b"-")?,
-    ]?;
+    let names = names(alloc, &["Hospital", "Folder", "-"])?;
     let rules = vec![in alloc;
         rule(alloc, Sign::Grant, &[(Axis::Descendant, "Folder")])?,
         rule(
@@ -151,12 +156,7 @@ fn equal_text(cmp: &Option<Cmp>) -> Option<&[u8]> {
 #[test]
 fn a_predicate_has_a_state_for_each_suffix(rt: HostRuntime) -> Result<(), Fail> {
     let alloc = rt.alloc();
-    let names = vec![in alloc;
-        Name::from_slice(alloc, b"Folder")?,
-        Name::from_slice(alloc, b"Act")?,
-        Name::from_slice(alloc, b"RPhys")?,
-        Name::from_slice(alloc, b"Admin")?,
-    ]?;
+    let names = names(alloc, &["Folder", "Act", "RPhys", "Admin"])?;
     let rules = vec![in alloc;
         rule(alloc, Sign::Deny, &[(Axis::Child, "Folder")])?,
         rule_with_predicates(alloc)?,
@@ -184,10 +184,8 @@ fn a_predicate_has_a_state_for_each_suffix(rt: HostRuntime) -> Result<(), Fail> 
     ];
     assert_eq!(rt; tables.bearings().len(), bearings.len());
     for (bearing, (step, first, whole, attribute, text)) in tables.bearings().iter().zip(bearings) {
-        assert_eq!(rt;
-            (bearing.step, bearing.first, bearing.whole),
-            (step, first, whole)
-        );
+        let numbers = (bearing.step, bearing.first, bearing.whole);
+        assert_eq!(rt; numbers, (step, first, whole));
         assert_eq!(rt; name_bytes(&bearing.attribute), attribute);
         assert_eq!(rt; equal_text(&bearing.cmp), text);
     }

@@ -12,11 +12,18 @@ from_parts-requires c =
     let now : List State = c.loop-number.states.items in
     let states : now ≡ states_from c.args.names.now 0 c.args.rules.now =
     sym (append-nil now)
-    ∙ ap (λ t. now ++ t) (sym (states_from-drop_all c.args.names.now c.args.rules.now c.loop-number.number c.loop-number-test.false))
+    ∙ ap (λ t. now ++ t)
+    (sym (states_from-drop_all c.args.names.now c.args.rules.now c.loop-number.number c.loop-number-test.false))
     ∙ c.loop-number.invariant in
     let limits : AreWithinLimits c.args.names.now c.args.rules.now = c.requires in
     let same : automata_of c.args.names.now c.args.rules.now
-    ≡ record { states = now; suffixes = c.in_ok-preds.preds.suffixes.items; bearings = c.in_ok-preds.preds.bearings.items; grants = c.numbered.result; denies = c.numbered-2.result } =
+    ≡ record {
+      states = now;
+      suffixes = c.in_ok-preds.preds.suffixes.items;
+      bearings = c.in_ok-preds.preds.bearings.items;
+      grants = c.numbered.result;
+      denies = c.numbered-2.result;
+    } =
     λ i. record {
       states = (sym states) i;
       suffixes = (sym c.in_ok-preds.ensures.suffixes) i;

@@ -7,6 +7,7 @@ abbrev pub invariant-loop-pred : goal.invariant-loop-pred
 invariant-loop-pred l = record {
   suffixes : l.found.suffixes.items ++ suffixes_of l.names (preds_at l.step (drop l.pred-index l.preds))
       ≡ l.fn.found.suffixes.items ++ suffixes_of l.names (preds_at l.step l.preds);
-  bearings : l.found.bearings.items ++ bearings_from (length l.found.suffixes.items) (preds_at l.step (drop l.pred-index l.preds))
+  bearings : l.found.bearings.items
+      ++ bearings_from (length l.found.suffixes.items) (preds_at l.step (drop l.pred-index l.preds))
       ≡ l.fn.found.bearings.items ++ bearings_from (length l.fn.found.suffixes.items) (preds_at l.step l.preds);
 }

@@ -7,6 +7,7 @@ abbrev pub invariant-loop-place : goal.invariant-loop-place
 invariant-loop-place l = record {
   suffixes : l.found.suffixes.items ++ suffixes_of l.names (preds_of_steps (l.first + l.place) (drop l.place l.steps))
       ≡ l.fn.found.suffixes.items ++ suffixes_of l.names (preds_of_steps l.first l.steps);
-  bearings : l.found.bearings.items ++ bearings_from (length l.found.suffixes.items) (preds_of_steps (l.first + l.place) (drop l.place l.steps))
+  bearings : l.found.bearings.items
+      ++ bearings_from (length l.found.suffixes.items) (preds_of_steps (l.first + l.place) (drop l.place l.steps))
       ≡ l.fn.found.bearings.items ++ bearings_from (length l.fn.found.suffixes.items) (preds_of_steps l.first l.steps);
 }

@@ -14,7 +14,8 @@ add_steps-requires-clause-suffixes c =
     let all : List Suffix = suffixes_of c.args.names.now (preds_from 0 c.args.rules.now) in
     let counted = length-suffixes_of c.args.names.now 0 c.args.rules.now in
     let few : length all ≤ 320 = omega (arith, counted, c.requires.few_pred_steps, c.requires.few_preds) in
-    rw c.as_slice-steps.ensures (room_of_rule c.args.names.now c.loop-rule.found.suffixes.items all c.loop-rule.first c.args.rules.now c.loop-rule.rule-index c.rule-item.result
+    rw c.as_slice-steps.ensures (room_of_rule c.args.names.now c.loop-rule.found.suffixes.items all c.loop-rule.first
+    c.args.rules.now c.loop-rule.rule-index c.rule-item.result
     c.loop-rule-test.true c.rule-item.is c.loop-rule.invariant.suffixes few)
 
 pub loop-rule-preserved : goal.loop-rule-preserved
@@ -31,16 +32,24 @@ loop-rule-preserved c =
     let is : steps ≡ rule.path.steps = c.as_slice-steps.ensures in
     let fewer = steps_in-drop all k rule c.loop-rule-test.true c.rule-item.is in
     let many = ap length is in
-    let grown : c.add_steps.new.found.suffixes.items ≡ now ++ suffixes_of names (preds_of_steps first steps) = c.in_ok-add_steps.ensures.suffixes in
+    let grown : c.add_steps.new.found.suffixes.items
+    ≡ now ++ suffixes_of names (preds_of_steps first steps) = c.in_ok-add_steps.ensures.suffixes in
     record {
       first = omega (arith, fewer, many, c.loop-rule.invariant.first);
       suffixes =
           ap (λ t. t ++ suffixes_of names (preds_from (first + length steps) later)) grown
-          ∙ ap (λ t. (now ++ suffixes_of names (preds_of_steps first t)) ++ suffixes_of names (preds_from (first + length t) later)) is
-          ∙ suffixes_of_rules-next names now _ first all k rule c.loop-rule-test.true c.rule-item.is c.loop-rule.invariant.suffixes;
+          ∙ ap (λ t. (now ++ suffixes_of names (preds_of_steps first t))
+          ++ suffixes_of names (preds_from (first + length t) later)) is
+          ∙ suffixes_of_rules-next names now _ first all k rule c.loop-rule-test.true c.rule-item.is
+          c.loop-rule.invariant.suffixes;
       bearings =
-          ap (λ t. t ++ bearings_from (length c.add_steps.new.found.suffixes.items) (preds_from (first + length steps) later)) c.in_ok-add_steps.ensures.bearings
-          ∙ ap (λ (t : List Suffix). (borne ++ bearings_from (length now) (preds_of_steps first steps)) ++ bearings_from (length t) (preds_from (first + length steps) later)) grown
-          ∙ ap (λ t. (borne ++ bearings_from (length now) (preds_of_steps first t)) ++ bearings_from (length (now ++ suffixes_of names (preds_of_steps first t))) (preds_from (first + length t) later)) is
-          ∙ bearings_of_rules-next names now borne _ first all k rule c.loop-rule-test.true c.rule-item.is c.loop-rule.invariant.bearings;
+          ap (λ t. t ++ bearings_from (length c.add_steps.new.found.suffixes.items)
+          (preds_from (first + length steps) later)) c.in_ok-add_steps.ensures.bearings
+          ∙ ap (λ (t : List Suffix). (borne ++ bearings_from (length now) (preds_of_steps first steps))
+          ++ bearings_from (length t) (preds_from (first + length steps) later)) grown
+          ∙ ap (λ t. (borne ++ bearings_from (length now) (preds_of_steps first t))
+          ++ bearings_from (length (now ++ suffixes_of names (preds_of_steps first t)))
+          (preds_from (first + length t) later)) is
+          ∙ bearings_of_rules-next names now borne _ first all k rule c.loop-rule-test.true c.rule-item.is
+          c.loop-rule.invariant.bearings;
     }

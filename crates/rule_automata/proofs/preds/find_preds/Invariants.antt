@@ -8,6 +8,7 @@ invariant-loop-rule l = record {
   first : l.first + steps_in (drop l.rule-index l.rules) ≡ steps_in l.rules;
   suffixes : l.found.suffixes.items ++ suffixes_of l.names (preds_from l.first (drop l.rule-index l.rules))
       ≡ suffixes_of l.names (preds_from 0 l.rules);
-  bearings : l.found.bearings.items ++ bearings_from (length l.found.suffixes.items) (preds_from l.first (drop l.rule-index l.rules))
+  bearings : l.found.bearings.items
+      ++ bearings_from (length l.found.suffixes.items) (preds_from l.first (drop l.rule-index l.rules))
       ≡ bearings_from 0 (preds_from 0 l.rules);
 }
