@@ -1,6 +1,6 @@
 -- What the first events of a list tell about predicates, and the bounds that follow for the elements that
 -- a rule selects. The *bearer* of a predicate is its context node (XPath 1.0, 1). Defined by this project.
-use Rattle.std.specs.Prelude.{◌≡◌, ◌≤◌, ℕ, Bool, true, false, nat_eq, nat_lt, not, ◌&&◌, ◌||◌, Option, Some, None, List, [], ◌∷◌, length, if◌then◌else◌}
+use Rattle.std.specs.Prelude.{◌≡◌, ◌≤◌, ℕ, suc, Bool, true, false, nat_eq, nat_lt, not, ◌&&◌, ◌||◌, Option, Some, None, List, [], ◌∷◌, length, if◌then◌else◌}
 use Rattle.std.specs.List.{list_any, list_all}
 use Rattle.std.specs.Option.{option_map_or}
 use Rattle.acl_model.specs.NameTests.{passes}
@@ -14,6 +14,7 @@ use Rattle.acl_model.specs.declared.path.Path.{Path}
 use Rattle.acl_model.specs.declared.path.Pred.{Pred}
 use Rattle.acl_model.specs.declared.path.Step.{Step}
 use Rattle.acl_model.specs.declared.rule.Rule.{Rule}
+use Rattle.acl_walk.specs.Begun.{begins_at}
 use Rattle.acl_walk.specs.Closes.{close, counted, is_met_at}
 use Rattle.acl_walk.specs.Open.{OpenPlace, open_at}
 use Rattle.acl_walk.specs.declared.event.Event.{Event}
@@ -48,6 +49,11 @@ first_events i bearer = i
 -- At each bearer, no fewer events are known by the second than by the first.
 abbrev pub KnowsNoLess : Knowledge → Knowledge → Type 0
 KnowsNoLess known more = (bearer : List ℕ) → known bearer ≤ more bearer
+
+-- At each of these places, no fewer events are known by the second than by the first.
+abbrev pub KnowsNoLessAt : List (List ℕ) → Knowledge → Knowledge → Type 0
+KnowsNoLessAt [] known more = Unit {0}
+KnowsNoLessAt (place ∷ places) known more = (known place ≤ more place) × KnowsNoLessAt places known more
 
 -- The predicate is surely true: one of the events that are known at its bearer meets it.
 abbrev pub sure_truth : Doc → List Event → Knowledge → PredicateTruth
@@ -124,6 +130,14 @@ are_settled d list known path place =
 abbrev pub learned : ℕ → Knowledge → Knowledge → Knowledge
 learned level own ahead bearer =
     if nat_lt (length bearer) level && nat_lt (own bearer) (ahead bearer) then ahead bearer else own bearer
+
+-- ---- one event more
+
+-- what is known at each bearer after the event at index i: the first i + 1 events, or more where more were known before.
+-- At the element that begins with this event no more than these i + 1 are known.
+abbrev pub knows_next : List Event → ℕ → Knowledge → Knowledge
+knows_next list i known bearer =
+    if not (begins_at list bearer i) && nat_lt i (known bearer) then known bearer else suc i
 
 -- ---- levels
 

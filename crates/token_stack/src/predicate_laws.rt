@@ -26,6 +26,7 @@ ghost use Rattle.acl_walk.specs.Spelling.{Spells};
 ghost use Rattle.acl_walk.specs.declared.event.Event.{Event};
 ghost use Rattle.acl_walk.specs.declared.event.Event.TheVariants.{Begin, Attr, Finish};
 ghost use Rattle.token_stack.specs.Bounds.{PredicateTruth, Knowledge, first_events, sure_truth, may_truth, learned};
+ghost use Rattle.token_stack.specs.Bounds.{KnowsNoLessAt, knows_next, place_of_level};
 ghost use Rattle.token_stack.specs.Bounds.{is_settled, is_kept_by, selects_by, rules_by, sure_rules, may_rules};
 ghost use Rattle.token_stack.specs.Hits.{open_with, hits, HitsInside};
 ghost use Rattle.token_stack.specs.PredicateLevels.{PredicateLevel, IsRowOf, TellsLevel, joined_level};
@@ -121,31 +122,53 @@ pub fn rows_rise_from_the_innermost_element()
         (risen states hit (names_from d (place ++ (k ∷ [])) more)) (λ n. states.lets n c.name) }
 {}
 
-/// In a list that spells a document, the levels of the open elements follow from event to event. The rows have what the
-/// event meets at each element that is open with it. What a Finish tells can be known before its element is closed:
-/// there all predicates that aren't met have failed. What an event meets changes nothing a second time.
+/// In a list that spells a document, the levels of the open elements follow from event to event, whatever is known at
+/// each of them, if at least the events before are. The rows have what the event meets at each element that is open with
+/// it. What a Finish tells can be known before its element is closed: there all predicates that aren't met have failed.
+/// What an event meets changes nothing where the event is known.
 pub fn levels_follow_events()
-    ensures start { (preds : List Pred) (d : Doc) (list : List Event)
-        → TellLevels preds d list (first_events 0) (places_of (open_at list 0)) [] }
+    ensures start { (preds : List Pred) (d : Doc) (list : List Event) (known : Knowledge)
+        → TellLevels preds d list known (places_of (open_at list 0)) [] }
     ensures event { (names : List (List ℕ)) (d : Doc) (list : List Event) (preds : List Pred)
-        (i : ℕ) (event : Event) (rows : List StateRow) (levels : List PredicateLevel)
-        → length names ≤ most_names → Spells names (Some d) list → slice_get list i ≡ Some event
+        (i : ℕ) (event : Event) (known : Knowledge) (rows : List StateRow)
+        (levels : List PredicateLevel) → length names ≤ most_names → Spells names (Some d) list
+        → slice_get list i ≡ Some event
         → TellNow preds d list i (places_of (open_with (open_at list i) event)) rows
-        → TellLevels preds d list (first_events i) (places_of (open_at list i)) levels
-        → TellLevels preds d list (first_events (i + 1)) (places_of (open_at list (i + 1)))
+        → KnowsNoLessAt (places_of (open_at list i)) (first_events i) known
+        → TellLevels preds d list known (places_of (open_at list i)) levels
+        → TellLevels preds d list (knows_next list i known) (places_of (open_at list (i + 1)))
         (levels_after_event event rows levels) }
-    ensures settle { (preds : List Pred) (d : Doc) (list : List Event) (i tag : ℕ)
+    ensures settle { (preds : List Pred) (d : Doc) (list : List Event) (i tag : ℕ) (known : Knowledge)
         (rows : List StateRow) (levels : List PredicateLevel)
         → slice_get list i ≡ Some (Finish tag)
         → TellNow preds d list i (places_of (open_at list i)) rows
-        → TellLevels preds d list (first_events i) (places_of (open_at list i)) levels
-        → TellLevels preds d list (first_events (i + 1)) (places_of (open_at list i))
+        → KnowsNoLessAt (places_of (open_at list i)) (first_events i) known
+        → TellLevels preds d list known (places_of (open_at list i)) levels
+        → TellLevels preds d list (knows_next list i known) (places_of (open_at list i))
         (settled_levels (all_met rows levels)) }
-    ensures again { (preds : List Pred) (d : Doc) (list : List Event) (i : ℕ)
+    ensures again { (preds : List Pred) (d : Doc) (list : List Event) (i : ℕ) (known : Knowledge)
         (places : List (List ℕ)) (rows : List StateRow) (levels : List PredicateLevel)
         → TellNow preds d list i places rows
-        → TellLevels preds d list (first_events (i + 1)) places levels
-        → TellLevels preds d list (first_events (i + 1)) places (all_met rows levels) }
+        → KnowsNoLessAt places (first_events (i + 1)) known
+        → TellLevels preds d list known places levels
+        → TellLevels preds d list known places (all_met rows levels) }
+{}
+
+/// After an event it is known at each element, and at an element that was open before no less is known than then. Where
+/// exactly the events before were known, exactly one more is known. Levels tell what is known at the places that they
+/// are of, whatever is known elsewhere.
+pub fn one_event_more_is_known()
+    ensures read { (list : List Event) (i : ℕ) (known : Knowledge) (places : List (List ℕ))
+        → KnowsNoLessAt places (first_events (i + 1)) (knows_next list i known) }
+    ensures no_less { (list : List Event) (i : ℕ) (known : Knowledge) (level : ℕ) (place : List ℕ)
+        → place_of_level (open_at list i) level ≡ Some place
+        → known place ≤ knows_next list i known place }
+    ensures exact { (list : List Event) (i : ℕ) (bearer : List ℕ)
+        → knows_next list i (first_events i) bearer ≡ first_events (i + 1) bearer }
+    ensures elsewhere { (preds : List Pred) (d : Doc) (list : List Event) (known more : Knowledge)
+        (places : List (List ℕ)) (levels : List PredicateLevel)
+        → KnowsNoLessAt places known more → KnowsNoLessAt places more known
+        → TellLevels preds d list known places levels → TellLevels preds d list more places levels }
 {}
 
 /// A level that tells what is known at an element gives the bounds of each predicate there. It is surely true if it is
