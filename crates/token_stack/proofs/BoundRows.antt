@@ -16,14 +16,14 @@ use Rattle.acl_model.specs.Select.{select}
 use Rattle.acl_model.specs.declared.document.Doc.{Doc}
 use Rattle.acl_model.specs.declared.path.Pred.{Pred}
 use Rattle.acl_model.specs.declared.rule.Rule.{Rule}
-use Rattle.acl_model.proofs.Members.{Has}
+use Rattle.acl_model.proofs.Members.{Has, has_none, has_later, has_cases}
 use Rattle.acl_model.proofs.PlaceLaws.{same_number}
-use Rattle.acl_walk.specs.Open.{OpenPlace, next_place, with_child, open_after, open_after_events, open_at}
+use Rattle.acl_walk.specs.Open.{OpenPlace, next_place, with_child, open_after, open_after_events, open_at, places_of}
 use Rattle.acl_walk.specs.Spelling.{Spells}
 use Rattle.acl_walk.specs.declared.event.Event.{Event}
 use Rattle.acl_walk.specs.declared.event.Event.TheVariants.{Begin, Attr, HeadEnd, Text, Finish, End}
 use Rattle.rule_automata.specs.Compile.{automata_of, have_no_predicates, is_empty_of}
-use Rattle.token_stack.specs.Bounds.{PredicateTruth, Knowledge, is_met, is_settled, KnowsNoLess, sure_truth, may_truth, selects_by, rules_by, sure_rules, may_rules, are_settled, learned, place_of_level, AreStillOpen, StandsBy}
+use Rattle.token_stack.specs.Bounds.{PredicateTruth, Knowledge, is_met, is_settled, KnowsNoLess, KnowsNoLessAt, sure_truth, may_truth, selects_by, rules_by, sure_rules, may_rules, are_settled, learned, place_of_level, AreStillOpen, StandsBy}
 use Rattle.token_stack.specs.Invariant.{does_rule_select, Stands, row_at}
 use Rattle.token_stack.specs.SignRows.{IsInOrder}
 use Rattle.token_stack.specs.Stack.{TokenStack}
@@ -94,11 +94,11 @@ plain_row names rules d list i tokens truth inner element up distinct few plain 
 
 -- ---- levels
 
-other_number : (a b : ℕ) → a < b → nat_eq a b ≡ false
+pub other_number : (a b : ℕ) → a < b → nat_eq a b ≡ false
 other_number a b less = ne_eqb a b (λ same. let is : a ≡ b = same in omega (arith, is, less))
 
 -- the place of the level of an open element
-level_split : (inner : List OpenPlace) (element : OpenPlace) (up : List OpenPlace) → place_of_level (inner ++ (element ∷ up)) (length (element ∷ up)) ≡ Some element.place
+pub level_split : (inner : List OpenPlace) (element : OpenPlace) (up : List OpenPlace) → place_of_level (inner ++ (element ∷ up)) (length (element ∷ up)) ≡ Some element.place
 level_split [] element up = ap (λ b. cond b (Some element.place) (place_of_level up (length (element ∷ up)))) (same_number (length (element ∷ up)))
 level_split (x ∷ inner) element up =
     let long : length (inner ++ (element ∷ up)) ≡ length inner + length (element ∷ up) = length-append inner (element ∷ up) in
@@ -107,13 +107,13 @@ level_split (x ∷ inner) element up =
     ∙ level_split inner element up
 
 -- the open element of a level that has a place
-record AtLevel (elements : List OpenPlace) (level : ℕ) (place : List ℕ) : Type 0 where
-  inner : List OpenPlace
-  element : OpenPlace
-  up : List OpenPlace
-  cut : elements ≡ inner ++ (element ∷ up)
-  size : level ≡ length (element ∷ up)
-  here : element.place ≡ place
+pub record AtLevel (elements : List OpenPlace) (level : ℕ) (place : List ℕ) : Type 0 where
+  pub inner : List OpenPlace
+  pub element : OpenPlace
+  pub up : List OpenPlace
+  pub cut : elements ≡ inner ++ (element ∷ up)
+  pub size : level ≡ length (element ∷ up)
+  pub here : element.place ≡ place
 
 level_by : (element : OpenPlace) (up : List OpenPlace) (level : ℕ) (place : List ℕ) (b : Bool) → nat_eq level (length (element ∷ up)) ≡ b
     → cond b (Some element.place) (place_of_level up level) ≡ Some place → (place_of_level up level ≡ Some place → AtLevel up level place) → AtLevel (element ∷ up) level place
@@ -123,11 +123,11 @@ level_by element up level place false same is rest =
     let found = rest is in
     record { inner = element ∷ found.inner; element = found.element; up = found.up; cut = ap (λ es. element ∷ es) found.cut; size = found.size; here = found.here }
 
-level_found : (elements : List OpenPlace) (level : ℕ) (place : List ℕ) → place_of_level elements level ≡ Some place → AtLevel elements level place
+pub level_found : (elements : List OpenPlace) (level : ℕ) (place : List ℕ) → place_of_level elements level ≡ Some place → AtLevel elements level place
 level_found [] level place is = absurd (none-some place is)
 level_found (element ∷ up) level place is = level_by element up level place (nat_eq level (length (element ∷ up))) refl is (level_found up level place)
 
-level_at : (elements inner : List OpenPlace) (element : OpenPlace) (up : List OpenPlace) → elements ≡ inner ++ (element ∷ up) → place_of_level elements (length (element ∷ up)) ≡ Some element.place
+pub level_at : (elements inner : List OpenPlace) (element : OpenPlace) (up : List OpenPlace) → elements ≡ inner ++ (element ∷ up) → place_of_level elements (length (element ∷ up)) ≡ Some element.place
 level_at elements inner element up is = ap (λ es. place_of_level es (length (element ∷ up))) is ∙ level_split inner element up
 
 module _ (names : List (List ℕ)) (rules : List Rule) (d : Doc) (list : List Event) (spells : Spells names (Some d) list) where
@@ -206,6 +206,28 @@ module _ (names : List (List ℕ)) (rules : List Rule) (d : Doc) (list : List Ev
           ∙ plain_row names rules d list i tokens truth f.inner f.element f.up distinct few plain spells stand f.cut
           ∙ ap (λ p. rules_by rules d truth p) f.here
 
+-- ---- what is known at some places
+
+pub at_each : (places : List (List ℕ)) (known more : Knowledge) → KnowsNoLessAt places known more → (p : List ℕ) → Has places p → known p ≤ more p
+at_each [] known more least p h = absurd (has_none p h)
+at_each (place ∷ places) known more least p h = elim (has_cases place p places h) [
+  | inl same ↦ subst (λ q. known q ≤ more q) same least.0
+  | inr later ↦ at_each places known more least.1 p later
+]
+
+pub at_all : (places : List (List ℕ)) (known more : Knowledge) → ((p : List ℕ) → known p ≤ more p) → KnowsNoLessAt places known more
+at_all [] known more least = tt
+at_all (place ∷ places) known more least = (least place, at_all places known more least)
+
+-- An open element's place is among the places of the open elements.
+pub open_has : (elements : List OpenPlace) (k : ℕ) (p : List ℕ) → place_of_level elements k ≡ Some p → Has (places_of elements) p
+open_has [] k p is = absurd (none-some p is)
+open_has (element ∷ up) k p is = by (nat_eq k (length (element ∷ up))) (open_has up k p) is
+  where
+    by : (b : Bool) → (place_of_level up k ≡ Some p → Has (places_of up) p) → cond b (Some element.place) (place_of_level up k) ≡ Some p → Has (places_of (element ∷ up)) p
+    by true rest there = (0, there)
+    by false rest there = has_later element.place p (places_of up) (rest there)
+
 -- ---- what a look-ahead tells
 
 -- After a look-ahead no less is known.
@@ -219,7 +241,7 @@ learned-more level own ahead bearer = by (nat_lt (length bearer) level && nat_lt
     by false is = omega arith
 
 -- At an element of these levels what is known is what is known ahead, where that is no less.
-learned-near : (level : ℕ) (own ahead : Knowledge) (bearer : List ℕ) → length bearer < level → own bearer ≤ ahead bearer → learned level own ahead bearer ≡ ahead bearer
+pub learned-near : (level : ℕ) (own ahead : Knowledge) (bearer : List ℕ) → length bearer < level → own bearer ≤ ahead bearer → learned level own ahead bearer ≡ ahead bearer
 learned-near level own ahead bearer near least =
     ap (λ b. cond (b && nat_lt (own bearer) (ahead bearer)) (ahead bearer) (own bearer)) (lt-ltb (length bearer) level near)
     ∙ by (nat_lt (own bearer) (ahead bearer)) refl
@@ -239,11 +261,11 @@ rules_same rules d f g place same =
     (selects_grow_above d g f r.path place (λ p pred above so. same p pred above ∙ so))))
 
 -- For an element of these levels, a look-ahead gives the bounds that are known ahead.
-module _ (rules : List Rule) (d : Doc) (list : List Event) (level : ℕ) (own ahead : Knowledge) (place : List ℕ) (near : length place < level) (more : KnowsNoLess own ahead) where
+module _ (rules : List Rule) (d : Doc) (list : List Event) (level : ℕ) (own ahead : Knowledge) (place : List ℕ) (near : length place < level) (more : KnowsNoLessAt (prefixes place) own ahead) where
   known_same : (p : List ℕ) → Has (prefixes place) p → learned level own ahead p ≡ ahead p
   known_same p above =
       let short : length p ≤ length place = prefix_short place p above in
-      learned-near level own ahead p (omega (arith, short, near)) (more p)
+      learned-near level own ahead p (omega (arith, short, near)) (at_each (prefixes place) own ahead more p above)
 
   pub learned_sure : sure_rules rules d list (learned level own ahead) place ≡ sure_rules rules d list ahead place
   learned_sure = rules_same rules d (sure_truth d list (learned level own ahead)) (sure_truth d list ahead) place

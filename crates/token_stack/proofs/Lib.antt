@@ -5,6 +5,7 @@ pub mod StandLaws
 pub mod RowLaws
 pub mod PassLaws
 pub mod KeptLaws
+pub mod LearnLaws
 pub mod OpenLaws
 pub mod FeedLaws
 pub mod InvariantLaws

@@ -36,6 +36,7 @@ use Rattle.token_stack.specs.StateRows.{StateRow, SuffixStates, moved_row, risen
 use Rattle.token_stack.specs.TokensStand.{StandInDocument}
 use Rattle.token_stack.specs.WayNames.{led, names_along, names_from}
 use Rattle.token_stack.proofs.BoundLaws.{same_by, sure_is, settled_after}
+use Rattle.token_stack.proofs.BoundRows.{at_each, at_all, open_has, learned-near}
 use Rattle.token_stack.proofs.HitLaws.{open-next, met_at-is, met_at-inside}
 use Rattle.token_stack.proofs.OpenLaws.{stand_at}
 use Rattle.token_stack.proofs.StateRowLaws.{InLine, prefixes-in_line, left_so, right_so, or_cases, risen_led, taken_rules}
@@ -89,7 +90,7 @@ any_onward p i k later = by (nat_lt i k) refl
         let same : k ≡ i = grind (arith, nat_tests, is, later) in
         ap (λ m. list_any p (counted m) || p i) same ∙ sym (any_next p i)
 
-is_false : (b : Bool) → (b ≡ true → ⊥) → b ≡ false
+pub is_false : (b : Bool) → (b ≡ true → ⊥) → b ≡ false
 is_false true never = absurd (never refl)
 is_false false never = refl
 
@@ -100,12 +101,12 @@ first_element None = None
 first_element (Some []) = None
 first_element (Some (y ∷ ys)) = Some y
 
-chain_at-below : (e : Element) (up : Chain) (place : List ℕ) (x : Element) (above : Chain) → chain_at e up place ≡ Some (x ∷ above) → below e place ≡ Some x
+pub chain_at-below : (e : Element) (up : Chain) (place : List ℕ) (x : Element) (above : Chain) → chain_at e up place ≡ Some (x ∷ above) → below e place ≡ Some x
 chain_at-below e up [] x above found = ap first_element found
 chain_at-below e up (k ∷ place) x above found = option_and_then_some (λ c. chain_at c (e ∷ up) place) (child e.items k) (x ∷ above) found (λ c is there.
     ap (option_and_then (λ y. below y place)) is ∙ chain_at-below c (e ∷ up) place x above there)
 
-prefixes_are : (place : List ℕ) → prefixes place ≡ place ∷ proper place
+pub prefixes_are : (place : List ℕ) → prefixes place ≡ place ∷ proper place
 prefixes_are [] = refl
 prefixes_are (k ∷ place) = ap (λ ps. map (λ prefix. k ∷ prefix) ps ++ ([] ∷ [])) (prefixes_are place)
 
@@ -151,25 +152,6 @@ begun_before list i p h = is_false (begins_at list p i) (λ so.
     ∙ second_so (option_map_or is_begin (slice_get list i) false) (innermost_is_at p (open_at list (i + 1))) so)) in
     other_place list (suc i) (record { tag = begin.0; place = place; children = 0 }) (with_child (open_at list i)) p next
     (subst (λ ps. Has ps p) (sym (places_of-with_child (open_at list i))) h) same)
-
-at_each : (places : List (List ℕ)) (known more : Knowledge) → KnowsNoLessAt places known more → (p : List ℕ) → Has places p → known p ≤ more p
-at_each [] known more least p h = absurd (has_none p h)
-at_each (place ∷ places) known more least p h = elim (has_cases place p places h) [
-  | inl same ↦ subst (λ q. known q ≤ more q) same least.0
-  | inr later ↦ at_each places known more least.1 p later
-]
-
-at_all : (places : List (List ℕ)) (known more : Knowledge) → ((p : List ℕ) → known p ≤ more p) → KnowsNoLessAt places known more
-at_all [] known more least = tt
-at_all (place ∷ places) known more least = (least place, at_all places known more least)
-
-open_has : (elements : List OpenPlace) (k : ℕ) (p : List ℕ) → place_of_level elements k ≡ Some p → Has (places_of elements) p
-open_has [] k p is = absurd (none-some p is)
-open_has (element ∷ up) k p is = by (nat_eq k (length (element ∷ up))) (open_has up k p) is
-  where
-    by : (b : Bool) → (place_of_level up k ≡ Some p → Has (places_of up) p) → cond b (Some element.place) (place_of_level up k) ≡ Some p → Has (places_of (element ∷ up)) p
-    by true rest there = (0, there)
-    by false rest there = has_later element.place p (places_of up) (rest there)
 
 -- After an event it is known, too.
 next_least : (list : List Event) (i : ℕ) (known : Knowledge) (bearer : List ℕ) → i + 1 ≤ knows_next list i known bearer
@@ -484,15 +466,6 @@ module _ (preds : List Pred) (d : Doc) (list : List Event) (place : List ℕ) wh
   joined_back i j one other later first second =
       let back = joined_onward i j other one later second first in
       record { met = λ n pred is. or_comm (one.met n) (other.met n) ∙ back.met n pred is; done = or_comm one.done other.done ∙ back.done }
-
-learned-near : (level : ℕ) (own ahead : Knowledge) (bearer : List ℕ) → length bearer < level → own bearer ≤ ahead bearer → learned level own ahead bearer ≡ ahead bearer
-learned-near level own ahead bearer near least =
-    ap (λ b. cond (b && nat_lt (own bearer) (ahead bearer)) (ahead bearer) (own bearer)) (lt-ltb (length bearer) level near)
-    ∙ by (nat_lt (own bearer) (ahead bearer)) refl
-  where
-    by : (b : Bool) → nat_lt (own bearer) (ahead bearer) ≡ b → cond b (ahead bearer) (own bearer) ≡ ahead bearer
-    by true is = refl
-    by false is = grind (arith, nat_tests, is, least)
 
 -- After a look-ahead the two levels together tell what is then known.
 pub joined_learned : (preds : List Pred) (d : Doc) (list : List Event) (level : ℕ) (own ahead : Knowledge) (place : List ℕ) (one other : PredicateLevel)

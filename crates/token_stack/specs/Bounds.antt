@@ -1,6 +1,6 @@
 -- What the first events of a list tell about predicates, and the bounds that follow for the elements that
 -- a rule selects. The *bearer* of a predicate is its context node (XPath 1.0, 1). Defined by this project.
-use Rattle.std.specs.Prelude.{◌≡◌, ◌≤◌, ℕ, suc, Bool, true, false, nat_eq, nat_lt, not, ◌&&◌, ◌||◌, Option, Some, None, List, [], ◌∷◌, length, if◌then◌else◌}
+use Rattle.std.specs.Prelude.{◌≡◌, ◌≤◌, ◌<◌, ℕ, suc, Bool, true, false, nat_eq, nat_le, nat_lt, not, ◌&&◌, ◌||◌, Option, Some, None, List, [], ◌∷◌, length, if◌then◌else◌}
 use Rattle.std.specs.List.{list_any, list_all}
 use Rattle.std.specs.Option.{option_map_or}
 use Rattle.acl_model.specs.NameTests.{passes}
@@ -152,6 +152,24 @@ place_of_level (element ∷ up) level =
 abbrev pub AreStillOpen : List Event → ℕ → ℕ → ℕ → Type 0
 AreStillOpen list i ahead level = (k : ℕ) → k ≤ level
     → place_of_level (open_at list i) k ≡ place_of_level (open_at list ahead) k
+
+-- At each element of the levels up to this one that is open after the first i events, no fewer events are known by the
+-- second than by the first.
+abbrev pub KnowsNoLessUpTo : List Event → ℕ → ℕ → Knowledge → Knowledge → Type 0
+KnowsNoLessUpTo list i level known more = (k : ℕ) (place : List ℕ) → k ≤ level
+    → place_of_level (open_at list i) k ≡ Some place → known place ≤ more place
+
+-- the sets of each level: those of `near` up to this level, and those of `far` at deeper ones
+abbrev pub rows_up_to : ℕ → (ℕ → List ℕ) → (ℕ → List ℕ) → ℕ → List ℕ
+rows_up_to level near far k = if nat_le k level then near k else far k
+
+-- Sets for the levels deeper than this one are the rules that surely select the elements which are open there after the
+-- first i events, and those that may, by what is known.
+abbrev pub AreRulesBeyond : List Rule → Doc → List Event → ℕ → Knowledge → ℕ → (ℕ → List ℕ) → (ℕ → List ℕ)
+    → Type 0
+AreRulesBeyond rules d list i known level surely possibly = (k : ℕ) (place : List ℕ) → level < k
+    → place_of_level (open_at list i) k ≡ Some place
+    → (surely k ≡ sure_rules rules d list known place) × (possibly k ≡ may_rules rules d list known place)
 
 -- Sets of sure and of possible rules for each level stand after the first i events, by what is known. No fewer
 -- than these events are known at each open element. The sets of its level are the rules that surely select it

@@ -1,14 +1,17 @@
 -- What is known of predicates at each open element, and how it follows from event to event. A predicate is *met* at its
 -- context node once an event has shown a value that makes it true. Defined by this project.
-use Rattle.std.specs.Prelude.{◌≡◌, ℕ, suc, Bool, true, false, not, ◌&&◌, ◌||◌, Some, List, [], ◌∷◌, drop, map}
+use Rattle.std.specs.Prelude.{◌≡◌, ℕ, suc, ◌-◌, Bool, true, false, nat_eq, nat_le, not, ◌&&◌, ◌||◌, if◌then◌else◌}
+use Rattle.std.specs.Prelude.{Option, Some, None, List, [], ◌∷◌, length, drop, map}
 use Rattle.std.specs.List.{list_any, list_all, slice_get}
 use Rattle.std.specs.Option.{option_map_or}
+use Rattle.acl_bits.specs.Row.{row_of}
 use Rattle.acl_model.specs.NameTests.{passes}
 use Rattle.acl_model.specs.Places.{at}
 use Rattle.acl_model.specs.declared.document.Doc.{Doc}
 use Rattle.acl_model.specs.declared.document.Element.{Element}
 use Rattle.acl_model.specs.declared.path.Pred.{Pred}
 use Rattle.acl_model.specs.declared.path.Step.{Step}
+use Rattle.acl_model.specs.declared.rule.Rule.{Rule}
 use Rattle.acl_walk.specs.Begun.{finishes_at}
 use Rattle.acl_walk.specs.Closes.{counted, is_met_at}
 use Rattle.acl_walk.specs.declared.event.Event.{Event}
@@ -16,6 +19,7 @@ use Rattle.acl_walk.specs.declared.event.Event.TheVariants.{Begin, Attr, HeadEnd
 use Rattle.token_stack.specs.Bounds.{Knowledge, is_met}
 use Rattle.token_stack.specs.Hits.{hits}
 use Rattle.token_stack.specs.StateRows.{StateRow, SuffixStates, IsSuffix, empty_suffix, HasEmptyAlone}
+use Rattle.token_stack.specs.StateRows.{StepStates, last_of_path, taken_row}
 
 -- Of numbered predicates, the row has exactly those for which a test is true.
 abbrev pub IsRowOf : List Pred → StateRow → (Pred → Bool) → Type 0
@@ -100,6 +104,26 @@ abbrev pub settled_levels : List PredicateLevel → List PredicateLevel
 settled_levels [] = []
 settled_levels (level ∷ levels) = settled_level level ∷ levels
 
+-- ---- after a look-ahead
+
+-- the level of the element with this level number, if there is one: the last is the root's, with the number 1
+abbrev pub level_of_number : List PredicateLevel → ℕ → Option PredicateLevel
+level_of_number [] k = None
+level_of_number (level ∷ up) k = if nat_eq k (length (level ∷ up)) then Some level else level_of_number up k
+
+-- what a level tells together with another one, if there is one
+abbrev pub joined_with : PredicateLevel → Option PredicateLevel → PredicateLevel
+joined_with one None = one
+joined_with one (Some other) = joined_level one other
+
+-- the levels after a look-ahead. Each element up to a level number, counted from the root, is joined with the level
+-- that has the same number ahead; the deeper ones stay.
+abbrev pub learned_levels : ℕ → List PredicateLevel → List PredicateLevel → List PredicateLevel
+learned_levels level [] ahead = []
+learned_levels level (one ∷ up) ahead =
+    (if nat_le (length (one ∷ up)) level then joined_with one (level_of_number ahead (length (one ∷ up))) else one)
+    ∷ learned_levels level up ahead
+
 -- ---- the row of the innermost element
 
 -- the names of the elements at these places of a document
@@ -157,3 +181,18 @@ kept_rows tests are_true [] levels = []
 kept_rows tests are_true (name ∷ names) [] = []
 kept_rows tests are_true (name ∷ names) (level ∷ levels) =
     (λ n. tests.lets n name && are_true level (tests.numbers n)) ∷ kept_rows tests are_true names levels
+
+-- ---- the rules of each open element
+
+-- the last k members of a list: of the open elements, those of the levels up to k
+abbrev pub outermost : {X : Type 0} → ℕ → List X → List X
+outermost k xs = drop (length xs - k) xs
+
+-- the rules of the open element of a level: those whose last steps are taken there. The names and the levels are those
+-- of all open elements, and `begins` has the number of the first step of each rule.
+abbrev pub rules_of_level : List Rule → StepStates → StepTests → (ℕ → ℕ) → (PredicateLevel → List ℕ → Bool)
+    → List (List ℕ) → List PredicateLevel → ℕ → List ℕ
+rules_of_level rules states tests begins are_true names levels k =
+    row_of (λ n. option_map_or (λ (rule : Rule). taken_row states
+    (kept_rows tests are_true (outermost k names) (outermost k levels))
+    (last_of_path (begins n) rule.path.steps)) (slice_get rules n) false)

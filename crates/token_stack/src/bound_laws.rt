@@ -7,7 +7,7 @@ ghost use Rattle.std.specs.List.{list_all, slice_get};
 ghost use Rattle.acl_bits.specs.Row.{is_member};
 ghost use Rattle.acl_model.specs.Dictionary.{are_distinct};
 ghost use Rattle.acl_model.specs.Limits.{most_names};
-ghost use Rattle.acl_model.specs.Places.{at};
+ghost use Rattle.acl_model.specs.Places.{at, prefixes};
 ghost use Rattle.acl_model.specs.Predicates.{holds};
 ghost use Rattle.acl_model.specs.RuleNumbers.{numbers_of};
 ghost use Rattle.acl_model.specs.Select.{select};
@@ -22,8 +22,10 @@ ghost use Rattle.acl_walk.specs.inside.CloseExamples.{nested, nested_events};
 ghost use Rattle.acl_walk.specs.Spelling.{Spells};
 ghost use Rattle.acl_walk.specs.declared.event.Event.{Event};
 ghost use Rattle.rule_automata.specs.Compile.{automata_of, have_no_predicates, is_empty_of};
-ghost use Rattle.token_stack.specs.Bounds.{PredicateTruth, Knowledge, first_events, KnowsNoLess, model_truth, is_settled, sure_truth, may_truth};
+ghost use Rattle.token_stack.specs.Bounds.{PredicateTruth, Knowledge, first_events, KnowsNoLess, KnowsNoLessAt, model_truth};
+ghost use Rattle.token_stack.specs.Bounds.{is_settled, sure_truth, may_truth};
 ghost use Rattle.token_stack.specs.Bounds.{IsAtMost, selects_by, are_settled, learned};
+ghost use Rattle.token_stack.specs.Bounds.{KnowsNoLessUpTo, AreRulesBeyond, rows_up_to};
 ghost use Rattle.token_stack.specs.Bounds.{rules_by, sure_rules, may_rules, place_of_level, AreStillOpen, StandsBy};
 ghost use Rattle.token_stack.specs.Invariant.{does_rule_select, Stands, row_at};
 ghost use Rattle.token_stack.specs.SignRows.{IsInOrder};
@@ -174,22 +176,42 @@ pub fn standing_sets_are_right()
 {}
 
 /// After a look-ahead no less is known. At an element of the levels that it tells of, the rules that surely
-/// select and those that may are those by what is known ahead, if that is no less. The elements of the levels
-/// up to one are still open ahead if at no index between fewer elements are open.
+/// select and those that may are those by what is known ahead, if that is no less at the element and its
+/// ancestors. The elements of the levels up to one are still open ahead if at no index between fewer elements
+/// are open.
 pub fn a_look_ahead_tells_more()
     ensures more { (level : ℕ) (own ahead : Knowledge)
         → KnowsNoLess own (learned level own ahead) }
     ensures sure { (rules : List Rule) (d : Doc) (list : List Event) (level : ℕ)
-        (own ahead : Knowledge) (place : List ℕ) → length place < level → KnowsNoLess own ahead
+        (own ahead : Knowledge) (place : List ℕ) → length place < level
+        → KnowsNoLessAt (prefixes place) own ahead
         → sure_rules rules d list (learned level own ahead) place
         ≡ sure_rules rules d list ahead place }
     ensures may { (rules : List Rule) (d : Doc) (list : List Event) (level : ℕ)
-        (own ahead : Knowledge) (place : List ℕ) → length place < level → KnowsNoLess own ahead
+        (own ahead : Knowledge) (place : List ℕ) → length place < level
+        → KnowsNoLessAt (prefixes place) own ahead
         → may_rules rules d list (learned level own ahead) place
         ≡ may_rules rules d list ahead place }
     ensures still_open { (list : List Event) (i ahead level : ℕ) → i ≤ ahead
         → ((j : ℕ) → i ≤ j → j ≤ ahead → level ≤ length (open_at list j))
         → AreStillOpen list i ahead level }
+{}
+
+/// After a look-ahead, sets of rules stand by what is known then. The elements of the levels that it tells of must still
+/// be open ahead, and no less must be known there. Up to this level the sets are those that stand ahead. At deeper
+/// levels they are the rules by what is known after the look-ahead.
+pub fn standing_sets_follow_a_look_ahead()
+    ensures { (rules : List Rule) (d : Doc) (list : List Event) (i j level : ℕ)
+        (own ahead : Knowledge) (surely possibly ahead_surely ahead_possibly : ℕ → List ℕ)
+        (deeper_surely deeper_possibly : ℕ → List ℕ)
+        → StandsBy rules d list i own surely possibly
+        → StandsBy rules d list j ahead ahead_surely ahead_possibly
+        → AreStillOpen list i j level → KnowsNoLessUpTo list i level own ahead
+        → AreRulesBeyond rules d list i (learned level own ahead) level
+        deeper_surely deeper_possibly
+        → StandsBy rules d list i (learned level own ahead)
+        (rows_up_to level ahead_surely deeper_surely)
+        (rows_up_to level ahead_possibly deeper_possibly) }
 {}
 
 /// Where no rule has a predicate, the rows of tokens that stand at an index of a list are those of each

@@ -14,7 +14,8 @@ mod tokens;
 pub use bound_laws::{
     a_look_ahead_tells_more, bounds_of_a_small_document, predicates_are_settled,
     predicates_lie_between_bounds, rules_lie_between_bounds, selection_follows_predicates,
-    selection_lies_between_bounds, standing_sets_are_right, standing_tokens_stand_by_what_is_known,
+    selection_lies_between_bounds, standing_sets_are_right, standing_sets_follow_a_look_ahead,
+    standing_tokens_stand_by_what_is_known,
 };
 pub use entry::Entry;
 pub use laws::{
@@ -23,8 +24,9 @@ pub use laws::{
     tokens_follow_events,
 };
 pub use predicate_laws::{
-    events_meet_what_they_hit, levels_follow_events, levels_give_the_bounds, levels_give_the_rules,
-    levels_join, levels_tell_what_steps_keep, one_event_more_is_known, rows_of_a_small_document,
+    events_meet_what_they_hit, levels_follow_a_look_ahead, levels_follow_events,
+    levels_give_the_bounds, levels_give_the_rules, levels_give_the_standing_sets, levels_join,
+    levels_tell_what_steps_keep, one_event_more_is_known, rows_of_a_small_document,
     rows_of_steps_tell_what_paths_select, rows_rise_as_ways_lead,
     rows_rise_from_the_innermost_element, values_are_read_whole, ways_lead_by_names,
 };

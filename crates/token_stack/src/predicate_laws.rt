@@ -26,13 +26,14 @@ ghost use Rattle.acl_walk.specs.Spelling.{Spells};
 ghost use Rattle.acl_walk.specs.declared.event.Event.{Event};
 ghost use Rattle.acl_walk.specs.declared.event.Event.TheVariants.{Begin, Attr, Finish};
 ghost use Rattle.token_stack.specs.Bounds.{PredicateTruth, Knowledge, first_events, sure_truth, may_truth, learned};
-ghost use Rattle.token_stack.specs.Bounds.{KnowsNoLessAt, knows_next, place_of_level};
+ghost use Rattle.token_stack.specs.Bounds.{KnowsNoLessAt, knows_next, place_of_level, AreStillOpen, StandsBy};
 ghost use Rattle.token_stack.specs.Bounds.{is_settled, is_kept_by, selects_by, rules_by, sure_rules, may_rules};
 ghost use Rattle.token_stack.specs.Hits.{open_with, hits, HitsInside};
 ghost use Rattle.token_stack.specs.PredicateLevels.{PredicateLevel, IsRowOf, TellsLevel, joined_level};
 ghost use Rattle.token_stack.specs.PredicateLevels.{TellLevels, TellNow, all_met, levels_after_event, settled_levels};
 ghost use Rattle.token_stack.specs.PredicateLevels.{AreSuffixes, IsHitRow, names_at, AreNumbersOf};
 ghost use Rattle.token_stack.specs.PredicateLevels.{are_all_met, may_all_be, StepTests, AreTestsOf, kept_rows};
+ghost use Rattle.token_stack.specs.PredicateLevels.{learned_levels, outermost, rules_of_level};
 ghost use Rattle.token_stack.specs.ReadValues.{texts_at, raw_at};
 ghost use Rattle.token_stack.specs.RowExamples.{b_with_c, c_is_x, b_in_a_in_a, equal_to};
 ghost use Rattle.token_stack.specs.RowExamples.{child_b, descendant_b, suffixes_of_b};
@@ -259,6 +260,46 @@ pub fn levels_join()
         (own ahead : Knowledge) (place : List ℕ) (one : PredicateLevel) → level ≤ length place
         → TellsLevel preds d list (own place) place one
         → TellsLevel preds d list (learned level own ahead place) place one }
+{}
+
+/// After a look-ahead, the levels of the open elements that are joined with those of the same number ahead, up to a
+/// level, tell what is known then. These elements must still be open ahead. Numbers are counted from the root, so that
+/// it doesn't matter how many elements inside them are open ahead.
+pub fn levels_follow_a_look_ahead()
+    ensures { (preds : List Pred) (d : Doc) (list : List Event) (i j level : ℕ)
+        (own ahead : Knowledge) (levels other : List PredicateLevel)
+        → AreStillOpen list i j level
+        → TellLevels preds d list own (places_of (open_at list i)) levels
+        → TellLevels preds d list ahead (places_of (open_at list j)) other
+        → TellLevels preds d list (learned level own ahead) (places_of (open_at list i))
+        (learned_levels level levels other) }
+{}
+
+/// In a list that spells a document, the levels of the open elements give sets of rules that stand by what is known. The
+/// levels of an element and of those around it are the outermost ones, and so are their names.
+pub fn levels_give_the_standing_sets()
+    ensures outermost { (d : Doc) (list : List Event) (i : ℕ) (preds : List Pred)
+        (known : Knowledge) (levels : List PredicateLevel) (k : ℕ) (place : List ℕ)
+        → TellLevels preds d list known (places_of (open_at list i)) levels
+        → place_of_level (open_at list i) k ≡ Some place
+        → TellLevels preds d list known (prefixes place) (outermost k levels) }
+    ensures names { (d : Doc) (list : List Event) (i k : ℕ) (place : List ℕ)
+        → place_of_level (open_at list i) k ≡ Some place
+        → outermost k (names_at d (places_of (open_at list i))) ≡ names_at d (prefixes place) }
+    ensures stand { (names : List (List ℕ)) (rules : List Rule) (d : Doc) (list : List Event) (i : ℕ)
+        (preds : List Pred) (known : Knowledge) (states : StepStates) (tests : StepTests)
+        (begins : ℕ → ℕ) (levels : List PredicateLevel) → length names ≤ most_names
+        → Spells names (Some d) list
+        → ((n : ℕ) (rule : Rule) → slice_get rules n ≡ Some rule
+        → ArePath states (begins n) rule.path.steps
+        × AreTestsOf preds tests (begins n) rule.path.steps)
+        → KnowsNoLessAt (places_of (open_at list i)) (first_events i) known
+        → TellLevels preds d list known (places_of (open_at list i)) levels
+        → StandsBy rules d list i known
+        (rules_of_level rules states tests begins are_all_met
+        (names_at d (places_of (open_at list i))) levels)
+        (rules_of_level rules states tests begins may_all_be
+        (names_at d (places_of (open_at list i))) levels) }
 {}
 
 /// In a list that spells a document, values are read in pieces. One text is read for each open element. At the
