@@ -18,3 +18,4 @@ pub mod StateRowLaws
 pub mod HitLaws
 pub mod PredicateLevelLaws
 pub mod ReadLaws
+pub mod OpenPredicateLaws

@@ -8,6 +8,7 @@ pub mod WayNames
 pub mod StateRows
 pub mod Hits
 pub mod PredicateLevels
+pub mod OpenPredicates
 pub mod ReadValues
 pub mod RowExamples
 pub mod SignRows

@@ -26,9 +26,10 @@ pub use laws::{
 pub use predicate_laws::{
     events_meet_what_they_hit, levels_follow_a_look_ahead, levels_follow_events,
     levels_give_the_bounds, levels_give_the_rules, levels_give_the_standing_sets, levels_join,
-    levels_tell_what_steps_keep, one_event_more_is_known, rows_of_a_small_document,
-    rows_of_steps_tell_what_paths_select, rows_rise_as_ways_lead,
-    rows_rise_from_the_innermost_element, values_are_read_whole, ways_lead_by_names,
+    levels_tell_what_steps_keep, one_event_more_is_known, open_predicates_are_not_settled,
+    rows_of_a_small_document, rows_of_steps_tell_what_paths_select, rows_rise_as_ways_lead,
+    rows_rise_from_the_innermost_element, undecided_rules_have_an_open_predicate,
+    values_are_read_whole, ways_lead_by_names,
 };
 pub use sign_laws::{standing_rows_give_signs, standing_tokens_give_signs};
 pub use tokens::Tokens;

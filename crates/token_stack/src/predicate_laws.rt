@@ -5,7 +5,7 @@ ghost use Rattle.std.specs.Prelude.{◌≡◌, ◌≤◌, ◌<◌, ◌+◌, ◌+
 ghost use Rattle.std.specs.Prelude.{length, map, take, not, codes};
 ghost use Rattle.std.specs.List.{slice_get};
 ghost use Rattle.std.specs.Option.{option_map_or};
-ghost use Rattle.acl_bits.specs.Row.{row_of};
+ghost use Rattle.acl_bits.specs.Row.{is_member, row_of};
 ghost use Rattle.acl_bits.specs.declared.piece.Piece.{Piece};
 ghost use Rattle.acl_model.specs.Limits.{most_names};
 ghost use Rattle.acl_model.specs.NameTests.{passes};
@@ -29,7 +29,8 @@ ghost use Rattle.token_stack.specs.Bounds.{PredicateTruth, Knowledge, first_even
 ghost use Rattle.token_stack.specs.Bounds.{KnowsNoLessAt, knows_next, place_of_level, AreStillOpen, StandsBy};
 ghost use Rattle.token_stack.specs.Bounds.{is_settled, is_kept_by, selects_by, rules_by, sure_rules, may_rules};
 ghost use Rattle.token_stack.specs.Hits.{open_with, hits, HitsInside};
-ghost use Rattle.token_stack.specs.PredicateLevels.{PredicateLevel, IsRowOf, TellsLevel, joined_level};
+ghost use Rattle.token_stack.specs.OpenPredicates.{is_open, have_open};
+ghost use Rattle.token_stack.specs.PredicateLevels.{PredicateLevel, IsRowOf, TellsLevel, joined_level, settled_level};
 ghost use Rattle.token_stack.specs.PredicateLevels.{TellLevels, TellNow, all_met, levels_after_event, settled_levels};
 ghost use Rattle.token_stack.specs.PredicateLevels.{AreSuffixes, IsHitRow, names_at, AreNumbersOf};
 ghost use Rattle.token_stack.specs.PredicateLevels.{are_all_met, may_all_be, StepTests, AreTestsOf, kept_rows};
@@ -260,6 +261,56 @@ pub fn levels_join()
         (own ahead : Knowledge) (place : List ℕ) (one : PredicateLevel) → level ≤ length place
         → TellsLevel preds d list (own place) place one
         → TellsLevel preds d list (learned level own ahead place) place one }
+{}
+
+/// A predicate is open at an element exactly where the name passes the test of the step that bears it and the predicate
+/// isn't settled by what is known. So it isn't open at other elements, nor after `settled_level` or once the element's
+/// Finish is known, nor once an event is known that meets it. By two levels of an element together it is open where it is
+/// open by both.
+pub fn open_predicates_are_not_settled()
+    ensures test { (tests : StepTests) (step : ℕ) (s : Step) (name : List ℕ)
+        (level : PredicateLevel) (n : ℕ)
+        → ((other : List ℕ) → tests.lets step other ≡ passes s.test other)
+        → is_open tests step name level n ≡ true → passes s.test name ≡ true }
+    ensures exact { (names : List (List ℕ)) (d : Doc) (list : List Event) (preds : List Pred)
+        (known : Knowledge) (tests : StepTests) (place : List ℕ) (e : Element)
+        (level : PredicateLevel) (step : ℕ) (s : Step) (n : ℕ) (pred : Pred)
+        → length names ≤ most_names → Spells names (Some d) list → at d place ≡ Some e
+        → TellsLevel preds d list (known place) place level
+        → ((name : List ℕ) → tests.lets step name ≡ passes s.test name)
+        → slice_get preds n ≡ Some pred
+        → is_open tests step e.name level n
+        ≡ (passes s.test e.name && not (is_settled d list (known place) place pred)) }
+    ensures settled { (tests : StepTests) (step : ℕ) (name : List ℕ) (level : PredicateLevel)
+        (n : ℕ) → is_open tests step name (settled_level level) n ≡ false }
+    ensures finished { (preds : List Pred) (d : Doc) (list : List Event) (tests : StepTests)
+        (step : ℕ) (name : List ℕ) (level : PredicateLevel) (n k finish : ℕ) (place : List ℕ)
+        → TellsLevel preds d list k place level → finishes_at list place finish ≡ true
+        → finish < k → is_open tests step name level n ≡ false }
+    ensures met_whole { (preds : List Pred) (d : Doc) (list : List Event) (tests : StepTests)
+        (step : ℕ) (name : List ℕ) (level : PredicateLevel) (n k i : ℕ) (pred : Pred)
+        (place : List ℕ) → TellsLevel preds d list k place level → slice_get preds n ≡ Some pred
+        → is_met_at d list place pred i ≡ true → i < k
+        → is_open tests step name level n ≡ false }
+    ensures joined { (tests : StepTests) (step : ℕ) (name : List ℕ) (one other : PredicateLevel)
+        (n : ℕ) → is_open tests step name (joined_level one other) n
+        ≡ (is_open tests step name one n && is_open tests step name other n) }
+{}
+
+/// Sets of rules stand by what is known, and levels tell it. Then a rule that is in the possible set of an open element
+/// and not in the sure one has a step with a predicate that is open at the element or at one around it.
+pub fn undecided_rules_have_an_open_predicate()
+    ensures { (names : List (List ℕ)) (rules : List Rule) (d : Doc) (list : List Event) (i : ℕ)
+        (preds : List Pred) (known : Knowledge) (tests : StepTests) (begins : ℕ → ℕ)
+        (surely possibly : ℕ → List ℕ) (levels : List PredicateLevel) (k : ℕ) (place : List ℕ)
+        (n : ℕ) (rule : Rule) → length names ≤ most_names → Spells names (Some d) list
+        → slice_get rules n ≡ Some rule → AreTestsOf preds tests (begins n) rule.path.steps
+        → StandsBy rules d list i known surely possibly
+        → TellLevels preds d list known (places_of (open_at list i)) levels
+        → place_of_level (open_at list i) k ≡ Some place
+        → is_member (possibly k) n ≡ true → is_member (surely k) n ≡ false
+        → have_open tests (begins n) rule.path.steps
+        (outermost k (names_at d (places_of (open_at list i)))) (outermost k levels) ≡ true }
 {}
 
 /// After a look-ahead, the levels of the open elements that are joined with those of the same number ahead, up to a
