@@ -1,5 +1,5 @@
 -- What //a[b] surely selects and may select in a small document, computed from the document's parts.
-use Rattle.std.proofs.Common.{◌≡◌, ℕ, Bool, true, false, nat_lt, not, ◌&&◌, ◌||◌, Option, Some, None, List, [], ◌∷◌, refl, ap, ◌∙◌, codes}
+use Rattle.std.proofs.Common.{◌≡◌, ℕ, Bool, true, false, nat_lt, not, ◌&&◌, ◌||◌, Some, None, List, [], ◌∷◌, refl, ap, ◌∙◌, codes}
 use Rattle.std.specs.List.{list_any, slice_get}
 use Rattle.std.specs.Option.{option_and_then, option_map_or}
 use Rattle.acl_model.specs.Places.{at, below, numbered, places, places_of_item}
@@ -10,7 +10,7 @@ use Rattle.acl_model.specs.declared.path.Test.TheVariants as test
 use Rattle.acl_model.proofs.GrantLaws.{children-Child}
 use Rattle.acl_model.proofs.PlaceLaws.{places_below_is, places_of_item-Child}
 use Rattle.acl_walk.specs.Begun.{begins_at}
-use Rattle.acl_walk.specs.Closes.{counted, meets, is_met_at, close}
+use Rattle.acl_walk.specs.Closes.{counted, meets, is_met_at}
 use Rattle.acl_walk.specs.inside.CloseExamples.{to_child, nested_b, nested_a, empty_a, nested, nested_events, has_b}
 use Rattle.acl_walk.proofs.CloseExamples.{close-nested_begin, close-own_finish}
 use Rattle.token_stack.specs.Bounds.{PredicateTruth, first_events, is_met, is_settled, sure_truth, may_truth, selects_by, is_kept_by}

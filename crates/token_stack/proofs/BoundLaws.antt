@@ -1,6 +1,6 @@
 -- The bounds after the first events of a list contain the model's selection, narrow with each event, and
 -- are exact where the predicates are settled.
-use Rattle.std.proofs.Common.{◌≡◌, ◌≤◌, ◌<◌, ◌+◌, ℕ, zero, suc, Bool, true, false, nat_eq, nat_lt, not, ◌&&◌, ◌||◌, Option, Some, None, is_some, List, [], ◌∷◌, ◌++◌, length, map, take, drop, find, refl, ap, sym, subst, ◌∙◌, inl, inr, ◌⊎◌, arith, cond}
+use Rattle.std.proofs.Common.{◌≡◌, ◌≤◌, ◌<◌, ◌+◌, ℕ, zero, suc, Bool, true, false, nat_eq, nat_lt, not, ◌&&◌, ◌||◌, Option, Some, None, is_some, List, [], ◌∷◌, length, map, take, drop, find, refl, ap, sym, subst, ◌∙◌, inl, inr, ◌⊎◌, arith, cond}
 use Rattle.std.proofs.lemmas.Bool.{true≢false, lt-ltb, ltb-true}
 use Rattle.std.proofs.lemmas.Option.{same_Some, none-some, slice_get_within, get_or_from_slice_get}
 use Rattle.std.proofs.lemmas.List.FromFn.{length-range_with_len, get_or-range_with_len}
@@ -11,7 +11,7 @@ use Rattle.acl_model.specs.NameTests.{passes}
 use Rattle.acl_model.specs.Places.{at, prefixes}
 use Rattle.acl_model.specs.Predicates.{holds, is_enough}
 use Rattle.acl_model.specs.Values.{string_value}
-use Rattle.acl_model.specs.Select.{Node, NodeSet, virtual_root, ancestors, leads, keeps, is_kept, step, steps, select}
+use Rattle.acl_model.specs.Select.{Node, NodeSet, virtual_root, ancestors, leads, is_kept, step, steps, select}
 use Rattle.acl_model.specs.declared.document.Doc.{Doc}
 use Rattle.acl_model.specs.declared.document.Element.{Element}
 use Rattle.acl_model.specs.declared.path.Axis.{Axis}
@@ -30,7 +30,7 @@ use Rattle.acl_walk.proofs.BegunLaws.{stands_in_list}
 use Rattle.acl_walk.proofs.CloseLaws.{close-some, close-within, close-inside}
 use Rattle.acl_walk.proofs.MeetLaws.{both_so, any_found, any_so, find_any, find_has, has_map, has_map_cases, has_counted, counted_within, event_within, met_so, met-is}
 use Rattle.rule_automata.specs.Compile.{is_empty_of}
-use Rattle.token_stack.specs.Bounds.{is_met, is_settled, PredicateTruth, Knowledge, KnowsNoLess, model_truth, sure_truth, may_truth, IsAtMost, keeps_by, is_kept_by, step_by, steps_by, selects_by, is_step_settled, are_settled}
+use Rattle.token_stack.specs.Bounds.{is_met, is_settled, PredicateTruth, Knowledge, KnowsNoLess, model_truth, sure_truth, may_truth, IsAtMost, is_kept_by, step_by, steps_by, selects_by, is_step_settled, are_settled}
 
 -- ---- tests
 

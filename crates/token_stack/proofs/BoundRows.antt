@@ -1,5 +1,5 @@
 -- The rules of each level lie between the bounds, and a look-ahead gives more of what is known.
-use Rattle.std.proofs.Common.{◌≡◌, ◌≤◌, ◌<◌, ◌+◌, ◌-◌, ℕ, zero, suc, Bool, true, false, nat_eq, nat_lt, not, ◌&&◌, ◌||◌, Option, Some, None, List, [], ◌∷◌, ◌++◌, length, take, refl, ap, sym, subst, ◌∙◌, inl, inr, ◌⊎◌, arith, cond}
+use Rattle.std.proofs.Common.{◌≡◌, ◌≤◌, ◌<◌, ◌+◌, ◌-◌, ℕ, zero, suc, Bool, true, false, nat_eq, nat_lt, not, ◌&&◌, ◌||◌, Option, Some, None, List, [], ◌∷◌, ◌++◌, length, take, refl, ap, sym, subst, ◌∙◌, inl, inr, arith, cond}
 use Rattle.std.proofs.lemmas.Bool.{true≢false, cases_lt, eqb-true, ne_eqb, lt-ltb, ltb-true}
 use Rattle.std.proofs.lemmas.Bool.Decides.{nat_tests}
 use Rattle.std.specs.Cmp.{second_so}
@@ -8,7 +8,7 @@ use Rattle.std.proofs.lemmas.Option.{same_Some, none-some}
 use Rattle.std.specs.List.{list_all, slice_get}
 use Rattle.std.specs.Option.{option_map_or}
 use Rattle.acl_bits.specs.Row.{row_of, is_member}
-use Rattle.acl_bits.specs.inside.RowLaws.{is_member-row_of, is_member-row_of_past, row_of-same, row_of-is_member}
+use Rattle.acl_bits.specs.inside.RowLaws.{is_member-row_of_past, row_of-same, row_of-is_member}
 use Rattle.acl_model.specs.RuleNumbers.{numbers_of}
 use Rattle.acl_model.specs.Dictionary.{are_distinct}
 use Rattle.acl_model.specs.Places.{prefixes}
@@ -30,7 +30,7 @@ use Rattle.token_stack.specs.Stack.{TokenStack}
 use Rattle.token_stack.specs.TokensStand.{TokensStandAt}
 use Rattle.token_stack.proofs.BoundLaws.{all_has, same_by, selects_grow_above, prefix_short, sure_selected, selected_may, sure_selects_more, may_selects_less, may_sure, plain_selects}
 use Rattle.token_stack.proofs.FeedLaws.{standing_rows}
-use Rattle.token_stack.proofs.InvariantLaws.{member_passes, passes_member, selects_within, standing_stands}
+use Rattle.token_stack.proofs.InvariantLaws.{member_passes, passes_member, selects_within}
 
 -- ---- rules by a truth of predicates
 

@@ -23,7 +23,7 @@ use Rattle.token_stack.specs.OpenPredicates.{is_open, has_open, have_open}
 use Rattle.token_stack.specs.PredicateLevels.{PredicateLevel, TellsLevel, TellLevels, settled_level, joined_level, names_at, AreNumbersOf, StepTests, AreTestsOf, outermost}
 use Rattle.token_stack.proofs.BoundRows.{settled_row}
 use Rattle.token_stack.proofs.LearnLaws.{outermost_levels, outermost_names}
-use Rattle.token_stack.proofs.PredicateLevelLaws.{is_false, level_settles}
+use Rattle.token_stack.proofs.PredicateLevelLaws.{level_settles}
 
 -- ---- tests
 

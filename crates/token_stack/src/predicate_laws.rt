@@ -37,7 +37,8 @@ ghost use Rattle.token_stack.specs.PredicateLevels.{are_all_met, may_all_be, Ste
 ghost use Rattle.token_stack.specs.PredicateLevels.{learned_levels, outermost, rules_of_level};
 ghost use Rattle.token_stack.specs.ReadValues.{texts_at, raw_at};
 ghost use Rattle.token_stack.specs.RowExamples.{b_with_c, c_is_x, b_in_a_in_a, equal_to};
-ghost use Rattle.token_stack.specs.RowExamples.{child_b, descendant_b, suffixes_of_b};
+ghost use Rattle.token_stack.specs.RowExamples.{child_b, descendant_b, suffixes_of_b, preds_of_b};
+ghost use Rattle.token_stack.specs.RowExamples.{levels_of_a, levels_with_b, levels_with_c, first_met};
 ghost use Rattle.token_stack.specs.RowExamples.{steps_to_a, kept_inner, kept_root, kept_b, first_four, first_two, just};
 ghost use Rattle.token_stack.specs.StateRows.{StateRow, SuffixStates, IsSuffix, empty_suffix, HasEmptyAlone};
 ghost use Rattle.token_stack.specs.StateRows.{moved_row, risen, rising_rows};
@@ -374,7 +375,8 @@ pub fn values_are_read_whole()
 /// The rows of the predicates of `//a[b]` and `/a[.//b/@c = 'x']` where an `a` has a child `a`, and that a child `b`
 /// whose attribute `c` is `x`, worked out by hand. At the Begin of `b` the first predicate is met at the inner `a`
 /// alone, and with the attribute the second one is met at both. Then the first rule selects the inner `a`, and the
-/// second one the root.
+/// second one the root. The predicates are numbered with their suffixes. What a look-ahead up to the attribute tells of
+/// both `a`, or of the root alone, is joined from the root inward.
 pub fn rows_of_a_small_document()
     ensures numbered { IsSuffix suffixes_of_b 1 child_b × IsSuffix suffixes_of_b 3 descendant_b }
     ensures near { (led child_b (codes "b" ∷ []) ≡ true)
@@ -392,6 +394,19 @@ pub fn rows_of_a_small_document()
     ensures at_attribute { map first_four (rising_rows suffixes_of_b (just 2) b_in_a_in_a)
         ≡ (false ∷ false ∷ true ∷ false ∷ []) ∷ (false ∷ false ∷ false ∷ true ∷ [])
         ∷ (false ∷ false ∷ false ∷ true ∷ []) ∷ [] }
+    ensures suffixes { AreSuffixes suffixes_of_b preds_of_b }
+    ensures hit_at_begin { IsHitRow preds_of_b (just 0) (Begin 1 []) 0 b_with_c }
+    ensures hit_at_attribute { IsHitRow preds_of_b (just 2) c_is_x 0 b_with_c }
+    ensures levels_at_begin { map first_met levels_with_b
+        ≡ (true ∷ false ∷ false ∷ false ∷ []) ∷ (false ∷ true ∷ false ∷ false ∷ [])
+        ∷ (false ∷ false ∷ false ∷ false ∷ []) ∷ [] }
+    ensures levels_at_attribute { map first_met levels_with_c
+        ≡ (true ∷ false ∷ true ∷ false ∷ []) ∷ (false ∷ true ∷ false ∷ true ∷ [])
+        ∷ (false ∷ false ∷ false ∷ true ∷ []) ∷ [] }
+    ensures learned { map first_met (learned_levels 2 levels_of_a levels_with_c)
+        ≡ (false ∷ true ∷ false ∷ true ∷ []) ∷ (false ∷ false ∷ false ∷ true ∷ []) ∷ [] }
+    ensures learned_root { map first_met (learned_levels 1 levels_of_a levels_with_c)
+        ≡ (false ∷ false ∷ false ∷ false ∷ []) ∷ (false ∷ false ∷ false ∷ true ∷ []) ∷ [] }
     ensures root { first_two (taken_row steps_to_a (kept_root ∷ [])) ≡ false ∷ true ∷ [] }
     ensures inner { first_two (taken_row steps_to_a (kept_inner ∷ kept_root ∷ []))
         ≡ true ∷ false ∷ [] }

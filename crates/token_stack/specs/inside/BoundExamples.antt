@@ -1,6 +1,6 @@
 -- A path whose predicate is met at one element and not at another. Between which bounds its selection lies
 -- is worked out by hand. Defined by this project.
-use Rattle.std.specs.Prelude.{List, [], ◌∷◌, codes}
+use Rattle.std.specs.Prelude.{[], ◌∷◌, codes}
 use Rattle.acl_model.specs.declared.path.Axis.TheVariants as axis
 use Rattle.acl_model.specs.declared.path.Path.{Path}
 use Rattle.acl_model.specs.declared.path.Step.{Step}
