@@ -1,5 +1,7 @@
 -- The rules of each level lie between the bounds, and a look-ahead gives more of what is known.
-use Rattle.std.proofs.Common.{◌≡◌, ◌≤◌, ◌<◌, ◌+◌, ◌-◌, ℕ, zero, suc, Bool, true, false, nat_eq, nat_lt, not, ◌&&◌, ◌||◌, Option, Some, None, List, [], ◌∷◌, ◌++◌, length, take, refl, ap, sym, subst, ◌∙◌, inl, inr, arith, cond}
+use Rattle.std.proofs.Common.{◌≡◌, ◌≤◌, ◌<◌, ◌+◌, ◌-◌, ℕ, zero, suc, Bool, true, false, nat_eq, nat_lt, not, ◌&&◌}
+use Rattle.std.proofs.Common.{◌||◌, Option, Some, None, List, [], ◌∷◌, ◌++◌, length, take, refl, ap, sym, subst, ◌∙◌}
+use Rattle.std.proofs.Common.{inl, inr, arith, cond}
 use Rattle.std.proofs.lemmas.Bool.{true≢false, cases_lt, eqb-true, ne_eqb, lt-ltb, ltb-true}
 use Rattle.std.proofs.lemmas.Bool.Decides.{nat_tests}
 use Rattle.std.specs.Cmp.{second_so}
@@ -23,7 +25,10 @@ use Rattle.acl_walk.specs.Spelling.{Spells}
 use Rattle.acl_walk.specs.declared.event.Event.{Event}
 use Rattle.acl_walk.specs.declared.event.Event.TheVariants.{Begin, Attr, HeadEnd, Text, Finish, End}
 use Rattle.rule_automata.specs.Compile.{automata_of, have_no_predicates, is_empty_of}
-use Rattle.token_stack.specs.Bounds.{PredicateTruth, Knowledge, is_met, is_settled, KnowsNoLess, KnowsNoLessAt, sure_truth, may_truth, selects_by, rules_by, sure_rules, may_rules, are_settled, learned, place_of_level, AreStillOpen, StandsBy}
+use Rattle.token_stack.specs.Bounds.{KnowsNoLessUpTo, first_events}
+use Rattle.token_stack.specs.Bounds.{PredicateTruth, Knowledge, is_met, is_settled, KnowsNoLess, KnowsNoLessAt}
+use Rattle.token_stack.specs.Bounds.{sure_truth, may_truth, selects_by, rules_by, sure_rules, may_rules, are_settled}
+use Rattle.token_stack.specs.Bounds.{learned, place_of_level, AreStillOpen, StandsBy}
 use Rattle.token_stack.specs.Invariant.{does_rule_select, Stands, row_at}
 use Rattle.token_stack.specs.SignRows.{IsInOrder}
 use Rattle.token_stack.specs.Stack.{TokenStack}
@@ -98,7 +103,8 @@ pub other_number : (a b : ℕ) → a < b → nat_eq a b ≡ false
 other_number a b less = ne_eqb a b (λ same. let is : a ≡ b = same in omega (arith, is, less))
 
 -- the place of the level of an open element
-pub level_split : (inner : List OpenPlace) (element : OpenPlace) (up : List OpenPlace) → place_of_level (inner ++ (element ∷ up)) (length (element ∷ up)) ≡ Some element.place
+pub level_split : (inner : List OpenPlace) (element : OpenPlace) (up : List OpenPlace)
+    → place_of_level (inner ++ (element ∷ up)) (length (element ∷ up)) ≡ Some element.place
 level_split [] element up = ap (λ b. cond b (Some element.place) (place_of_level up (length (element ∷ up)))) (same_number (length (element ∷ up)))
 level_split (x ∷ inner) element up =
     let long : length (inner ++ (element ∷ up)) ≡ length inner + length (element ∷ up) = length-append inner (element ∷ up) in
@@ -123,11 +129,13 @@ level_by element up level place false same is rest =
     let found = rest is in
     record { inner = element ∷ found.inner; element = found.element; up = found.up; cut = ap (λ es. element ∷ es) found.cut; size = found.size; here = found.here }
 
-pub level_found : (elements : List OpenPlace) (level : ℕ) (place : List ℕ) → place_of_level elements level ≡ Some place → AtLevel elements level place
+pub level_found : (elements : List OpenPlace) (level : ℕ) (place : List ℕ)
+    → place_of_level elements level ≡ Some place → AtLevel elements level place
 level_found [] level place is = absurd (none-some place is)
 level_found (element ∷ up) level place is = level_by element up level place (nat_eq level (length (element ∷ up))) refl is (level_found up level place)
 
-pub level_at : (elements inner : List OpenPlace) (element : OpenPlace) (up : List OpenPlace) → elements ≡ inner ++ (element ∷ up) → place_of_level elements (length (element ∷ up)) ≡ Some element.place
+pub level_at : (elements inner : List OpenPlace) (element : OpenPlace) (up : List OpenPlace)
+    → elements ≡ inner ++ (element ∷ up) → place_of_level elements (length (element ∷ up)) ≡ Some element.place
 level_at elements inner element up is = ap (λ es. place_of_level es (length (element ∷ up))) is ∙ level_split inner element up
 
 module _ (names : List (List ℕ)) (rules : List Rule) (d : Doc) (list : List Event) (spells : Spells names (Some d) list) where
@@ -208,23 +216,27 @@ module _ (names : List (List ℕ)) (rules : List Rule) (d : Doc) (list : List Ev
 
 -- ---- what is known at some places
 
-pub at_each : (places : List (List ℕ)) (known more : Knowledge) → KnowsNoLessAt places known more → (p : List ℕ) → Has places p → known p ≤ more p
+pub at_each : (places : List (List ℕ)) (known more : Knowledge) → KnowsNoLessAt places known more → (p : List ℕ)
+    → Has places p → known p ≤ more p
 at_each [] known more least p h = absurd (has_none p h)
 at_each (place ∷ places) known more least p h = elim (has_cases place p places h) [
   | inl same ↦ subst (λ q. known q ≤ more q) same least.0
   | inr later ↦ at_each places known more least.1 p later
 ]
 
-pub at_all : (places : List (List ℕ)) (known more : Knowledge) → ((p : List ℕ) → known p ≤ more p) → KnowsNoLessAt places known more
+pub at_all : (places : List (List ℕ)) (known more : Knowledge) → ((p : List ℕ) → known p ≤ more p)
+    → KnowsNoLessAt places known more
 at_all [] known more least = tt
 at_all (place ∷ places) known more least = (least place, at_all places known more least)
 
 -- An open element's place is among the places of the open elements.
-pub open_has : (elements : List OpenPlace) (k : ℕ) (p : List ℕ) → place_of_level elements k ≡ Some p → Has (places_of elements) p
+pub open_has : (elements : List OpenPlace) (k : ℕ) (p : List ℕ) → place_of_level elements k ≡ Some p
+    → Has (places_of elements) p
 open_has [] k p is = absurd (none-some p is)
 open_has (element ∷ up) k p is = by (nat_eq k (length (element ∷ up))) (open_has up k p) is
   where
-    by : (b : Bool) → (place_of_level up k ≡ Some p → Has (places_of up) p) → cond b (Some element.place) (place_of_level up k) ≡ Some p → Has (places_of (element ∷ up)) p
+    by : (b : Bool) → (place_of_level up k ≡ Some p → Has (places_of up) p)
+        → cond b (Some element.place) (place_of_level up k) ≡ Some p → Has (places_of (element ∷ up)) p
     by true rest there = (0, there)
     by false rest there = has_later element.place p (places_of up) (rest there)
 
@@ -240,8 +252,28 @@ learned-more level own ahead bearer = by (nat_lt (length bearer) level && nat_lt
         omega (arith, less)
     by false is = omega arith
 
+-- So the events that were known are known still.
+pub learned-read : (level i : ℕ) (own ahead : Knowledge) (places : List (List ℕ))
+    → KnowsNoLessAt places (first_events i) own → KnowsNoLessAt places (first_events i) (learned level own ahead)
+learned-read level i own ahead [] read = tt
+learned-read level i own ahead (place ∷ places) read =
+    let least : i ≤ own place = read.0 in
+    let grows : own place ≤ learned level own ahead place = learned-more level own ahead place in
+    (omega (arith, least, grows), learned-read level i own ahead places read.1)
+
+-- Where ahead no less was known, no more is known after the look-ahead than ahead.
+pub learned-no_more : (list : List Event) (i level : ℕ) (own ahead : Knowledge)
+    → KnowsNoLessUpTo list i level own ahead → KnowsNoLessUpTo list i level (learned level own ahead) ahead
+learned-no_more list i level own ahead more k place near is =
+    by (nat_lt (length place) level && nat_lt (own place) (ahead place)) (more k place near is)
+  where
+    by : (b : Bool) → own place ≤ ahead place → cond b (ahead place) (own place) ≤ ahead place
+    by true least = omega arith
+    by false least = least
+
 -- At an element of these levels what is known is what is known ahead, where that is no less.
-pub learned-near : (level : ℕ) (own ahead : Knowledge) (bearer : List ℕ) → length bearer < level → own bearer ≤ ahead bearer → learned level own ahead bearer ≡ ahead bearer
+pub learned-near : (level : ℕ) (own ahead : Knowledge) (bearer : List ℕ) → length bearer < level
+    → own bearer ≤ ahead bearer → learned level own ahead bearer ≡ ahead bearer
 learned-near level own ahead bearer near least =
     ap (λ b. cond (b && nat_lt (own bearer) (ahead bearer)) (ahead bearer) (own bearer)) (lt-ltb (length bearer) level near)
     ∙ by (nat_lt (own bearer) (ahead bearer)) refl
@@ -261,7 +293,8 @@ rules_same rules d f g place same =
     (selects_grow_above d g f r.path place (λ p pred above so. same p pred above ∙ so))))
 
 -- For an element of these levels, a look-ahead gives the bounds that are known ahead.
-module _ (rules : List Rule) (d : Doc) (list : List Event) (level : ℕ) (own ahead : Knowledge) (place : List ℕ) (near : length place < level) (more : KnowsNoLessAt (prefixes place) own ahead) where
+module _ (rules : List Rule) (d : Doc) (list : List Event) (level : ℕ) (own ahead : Knowledge) (place : List ℕ)
+    (near : length place < level) (more : KnowsNoLessAt (prefixes place) own ahead) where
   known_same : (p : List ℕ) → Has (prefixes place) p → learned level own ahead p ≡ ahead p
   known_same p above =
       let short : length p ≤ length place = prefix_short place p above in

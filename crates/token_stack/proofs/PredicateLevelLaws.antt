@@ -29,7 +29,10 @@ use Rattle.acl_walk.specs.declared.event.Event.TheVariants.{Begin, Attr, HeadEnd
 use Rattle.acl_walk.proofs.BegunLaws.{stands_in_list}
 use Rattle.acl_walk.proofs.CloseLaws.{close-inside}
 use Rattle.acl_walk.proofs.MeetLaws.{both_so, same_place, some_found, any_found, any_so, find_has, has_counted, counted_within, has_map_cases}
-use Rattle.token_stack.specs.Bounds.{PredicateTruth, Knowledge, first_events, is_met, is_settled, sure_truth, may_truth, is_kept_by, rules_by, sure_rules, may_rules, learned, knows_next, place_of_level, KnowsNoLessAt}
+use Rattle.token_stack.specs.Bounds.{AreStillOpen, KnowsNoLessUpTo}
+use Rattle.token_stack.specs.Bounds.{PredicateTruth, Knowledge, first_events, is_met, is_settled, sure_truth}
+use Rattle.token_stack.specs.Bounds.{may_truth, is_kept_by, rules_by, sure_rules, may_rules, learned, knows_next}
+use Rattle.token_stack.specs.Bounds.{place_of_level, KnowsNoLessAt}
 use Rattle.token_stack.specs.Hits.{open_with, hits}
 use Rattle.token_stack.specs.PredicateLevels.{IsRowOf, PredicateLevel, is_finished, TellsLevel, new_level, with_met, settled_level, joined_level, TellLevels, TellNow, all_met, begun_levels, settled_levels, levels_after_event, AreSuffixes, names_at, IsHitRow, AreNumbersOf, are_all_met, may_all_be, StepTests, AreTestsOf, kept_rows}
 use Rattle.token_stack.specs.StateRows.{StateRow, SuffixStates, moved_row, risen, rising_rows, StepStates, ArePath, last_of_path, IsKeptRow, AreKeptRows, taken_row}
@@ -84,7 +87,11 @@ any_onward p i k later = by (nat_lt i k) refl
     by true is =
         let less : i < k = ltb-true i k is in
         same_by (list_any p (counted k) || p i) (list_any p (counted k))
-        (λ so. elim (or_cases (list_any p (counted k)) (p i) so) [ inl before ↦ before | inr now ↦ any_so p (counted k) i (has_counted k i less) now ])
+        (λ so. elim (or_cases (list_any p (counted k)) (p i) so) [
+          | inl before ↦ before
+          | inr now ↦
+              any_so p (counted k) i (has_counted k i less) now
+        ])
         (λ so. left_so (list_any p (counted k)) (p i) so)
     by false is =
         let same : k ≡ i = grind (arith, nat_tests, is, later) in
@@ -101,7 +108,8 @@ first_element None = None
 first_element (Some []) = None
 first_element (Some (y ∷ ys)) = Some y
 
-pub chain_at-below : (e : Element) (up : Chain) (place : List ℕ) (x : Element) (above : Chain) → chain_at e up place ≡ Some (x ∷ above) → below e place ≡ Some x
+pub chain_at-below : (e : Element) (up : Chain) (place : List ℕ) (x : Element) (above : Chain)
+    → chain_at e up place ≡ Some (x ∷ above) → below e place ≡ Some x
 chain_at-below e up [] x above found = ap first_element found
 chain_at-below e up (k ∷ place) x above found = option_and_then_some (λ c. chain_at c (e ∷ up) place) (child e.items k) (x ∷ above) found (λ c is there.
     ap (option_and_then (λ y. below y place)) is ∙ chain_at-below c (e ∷ up) place x above there)
@@ -132,7 +140,8 @@ other_place list i element up p is h same =
 
 -- ---- open elements
 
-begin_of : (o : Option Event) → option_map_or is_begin o false ≡ true → (tag : ℕ) × (row : List ℕ) × (o ≡ Some (Begin tag row))
+begin_of : (o : Option Event) → option_map_or is_begin o false ≡ true
+    → (tag : ℕ) × (row : List ℕ) × (o ≡ Some (Begin tag row))
 begin_of None so = absurd (true≢false (sym so))
 begin_of (Some (Begin tag row)) so = (tag, row, refl)
 begin_of (Some (Attr piece)) so = absurd (true≢false (sym so))
@@ -142,19 +151,24 @@ begin_of (Some (Finish tag)) so = absurd (true≢false (sym so))
 begin_of (Some End) so = absurd (true≢false (sym so))
 
 -- An element that is open doesn't begin once more.
-begun_before : (list : List Event) (i : ℕ) (p : List ℕ) → Has (places_of (open_at list i)) p → begins_at list p i ≡ false
+begun_before : (list : List Event) (i : ℕ) (p : List ℕ) → Has (places_of (open_at list i)) p
+    → begins_at list p i ≡ false
 begun_before list i p h = is_false (begins_at list p i) (λ so.
-    let begin = begin_of (slice_get list i) (first_so (option_map_or is_begin (slice_get list i) false) (innermost_is_at p (open_at list (i + 1))) so) in
-    let next : open_at list (suc i) ≡ open_after (open_at list i) (Begin begin.0 begin.1) = open-next [] list i (Begin begin.0 begin.1) begin.2 in
+    let begin = begin_of (slice_get list i)
+    (first_so (option_map_or is_begin (slice_get list i) false) (innermost_is_at p (open_at list (i + 1))) so) in
+    let next : open_at list (suc i) ≡ open_after (open_at list i) (Begin begin.0 begin.1) =
+    open-next [] list i (Begin begin.0 begin.1) begin.2 in
     let place : List ℕ = next_place (open_at list i) in
     let same : place ≡ p = same_text place p
     (sym (sym (ap (λ k. innermost_is_at p (open_at list k)) (add-one i) ∙ ap (innermost_is_at p) next)
     ∙ second_so (option_map_or is_begin (slice_get list i) false) (innermost_is_at p (open_at list (i + 1))) so)) in
-    other_place list (suc i) (record { tag = begin.0; place = place; children = 0 }) (with_child (open_at list i)) p next
+    other_place list (suc i) (record { tag = begin.0; place = place; children = 0 })
+    (with_child (open_at list i)) p next
     (subst (λ ps. Has ps p) (sym (places_of-with_child (open_at list i))) h) same)
 
 -- After an event it is known, too.
-next_least : (list : List Event) (i : ℕ) (known : Knowledge) (bearer : List ℕ) → i + 1 ≤ knows_next list i known bearer
+next_least : (list : List Event) (i : ℕ) (known : Knowledge) (bearer : List ℕ)
+    → i + 1 ≤ knows_next list i known bearer
 next_least list i known bearer = by (not (begins_at list bearer i)) (nat_lt i (known bearer)) refl
   where
     by : (b c : Bool) → nat_lt i (known bearer) ≡ c → i + 1 ≤ cond (b && c) (known bearer) (suc i)
@@ -162,8 +176,10 @@ next_least list i known bearer = by (not (begins_at list bearer i)) (nat_lt i (k
     by true false is = omega arith
     by false c is = omega arith
 
-pub next_known : (list : List Event) (i : ℕ) (known : Knowledge) (places : List (List ℕ)) → KnowsNoLessAt places (first_events (i + 1)) (knows_next list i known)
-next_known list i known places = at_all places (first_events (i + 1)) (knows_next list i known) (next_least list i known)
+pub next_known : (list : List Event) (i : ℕ) (known : Knowledge) (places : List (List ℕ))
+    → KnowsNoLessAt places (first_events (i + 1)) (knows_next list i known)
+next_known list i known places =
+    at_all places (first_events (i + 1)) (knows_next list i known) (next_least list i known)
 
 onward_more : (i k : ℕ) → k ≤ onward i k
 onward_more i k = by (nat_lt i k) refl
@@ -173,15 +189,27 @@ onward_more i k = by (nat_lt i k) refl
     by false is = grind (arith, nat_tests, is)
 
 -- At an open element no less is known than before.
-pub next_more : (list : List Event) (i : ℕ) (known : Knowledge) (level : ℕ) (place : List ℕ) → place_of_level (open_at list i) level ≡ Some place → known place ≤ knows_next list i known place
+pub next_more : (list : List Event) (i : ℕ) (known : Knowledge) (level : ℕ) (place : List ℕ)
+    → place_of_level (open_at list i) level ≡ Some place → known place ≤ knows_next list i known place
 next_more list i known level place is =
     let old = begun_before list i place (open_has (open_at list i) level place is) in
-    subst (λ k. known place ≤ k) (sym (ap (λ b. cond (not b && nat_lt i (known place)) (known place) (suc i)) old)) (onward_more i (known place))
+    subst (λ k. known place ≤ k) (sym (ap (λ b. cond (not b && nat_lt i (known place)) (known place) (suc i)) old))
+    (onward_more i (known place))
+
+-- A look-ahead that takes one more event knows no less at the elements that stay open.
+pub next_onward : (list : List Event) (i j level : ℕ) (own ahead : Knowledge) → AreStillOpen list i j level
+    → KnowsNoLessUpTo list i level own ahead → KnowsNoLessUpTo list i level own (knows_next list j ahead)
+next_onward list i j level own ahead still more k place near is =
+    let least : own place ≤ ahead place = more k place near is in
+    let grows : ahead place ≤ knows_next list j ahead place = next_more list j ahead k place (sym (still k near) ∙ is) in
+    omega (arith, least, grows)
 
 -- Where exactly the first i events are known, the first i + 1 are known after the event.
-pub next_first : (list : List Event) (i : ℕ) (bearer : List ℕ) → knows_next list i (first_events i) bearer ≡ first_events (i + 1) bearer
+pub next_first : (list : List Event) (i : ℕ) (bearer : List ℕ)
+    → knows_next list i (first_events i) bearer ≡ first_events (i + 1) bearer
 next_first list i bearer =
-    ap (λ b. cond (not (begins_at list bearer i) && b) i (suc i)) (is_false (nat_lt i i) (λ so. let less : i < i = ltb-true i i so in omega (arith, less)))
+    ap (λ b. cond (not (begins_at list bearer i) && b) i (suc i))
+    (is_false (nat_lt i i) (λ so. let less : i < i = ltb-true i i so in omega (arith, less)))
     ∙ by (not (begins_at list bearer i)) ∙ sym (add-one i)
   where
     by : (b : Bool) → cond (b && false) i (suc i) ≡ suc i
@@ -189,8 +217,10 @@ next_first list i bearer =
     by false = refl
 
 -- Levels tell what is known at the places, whatever is known elsewhere.
-pub levels_same : (preds : List Pred) (d : Doc) (list : List Event) (known more : Knowledge) (places : List (List ℕ)) (levels : List PredicateLevel)
-    → KnowsNoLessAt places known more → KnowsNoLessAt places more known → TellLevels preds d list known places levels → TellLevels preds d list more places levels
+pub levels_same : (preds : List Pred) (d : Doc) (list : List Event) (known more : Knowledge) (places : List (List ℕ))
+    (levels : List PredicateLevel)
+    → KnowsNoLessAt places known more → KnowsNoLessAt places more known → TellLevels preds d list known places levels
+    → TellLevels preds d list more places levels
 levels_same preds d list known more [] [] to from tell = tt
 levels_same preds d list known more [] (level ∷ levels) to from tell = absurd tell
 levels_same preds d list known more (place ∷ places) [] to from tell = absurd tell
@@ -203,35 +233,44 @@ levels_same preds d list known more (place ∷ places) (level ∷ levels) to fro
 module _ (preds : List Pred) (d : Doc) (list : List Event) (i : ℕ) where
   -- ---- one level
 
-  met_next : (place : List ℕ) (k : ℕ) (met now : StateRow) → i ≤ k → IsRowOf preds met (is_met d list k place) → IsRowOf preds now (λ pred. is_met_at d list place pred i)
+  met_next : (place : List ℕ) (k : ℕ) (met now : StateRow) → i ≤ k → IsRowOf preds met (is_met d list k place)
+      → IsRowOf preds now (λ pred. is_met_at d list place pred i)
       → IsRowOf preds (λ n. met n || now n) (is_met d list (onward i k) place)
   met_next place k met now later before tells n pred is =
       ap (λ b. b || now n) (before n pred is) ∙ ap (λ b. is_met d list k place pred || b) (tells n pred is)
       ∙ any_onward (is_met_at d list place pred) i k later
 
-  done_next : (place : List ℕ) (k : ℕ) (done : Bool) → i ≤ k → done ≡ is_finished list k place → finishes_at list place i ≡ false → done ≡ is_finished list (onward i k) place
+  done_next : (place : List ℕ) (k : ℕ) (done : Bool) → i ≤ k → done ≡ is_finished list k place
+      → finishes_at list place i ≡ false → done ≡ is_finished list (onward i k) place
   done_next place k done later before stays =
-      before ∙ sym (ap (λ b. is_finished list k place || b) stays ∙ or_false (is_finished list k place)) ∙ any_onward (finishes_at list place) i k later
+      before ∙ sym (ap (λ b. is_finished list k place || b) stays ∙ or_false (is_finished list k place))
+      ∙ any_onward (finishes_at list place) i k later
 
-  level_next : (place : List ℕ) (k : ℕ) (level : PredicateLevel) (now : StateRow) → i ≤ k → TellsLevel preds d list k place level → IsRowOf preds now (λ pred. is_met_at d list place pred i)
+  level_next : (place : List ℕ) (k : ℕ) (level : PredicateLevel) (now : StateRow) → i ≤ k
+      → TellsLevel preds d list k place level → IsRowOf preds now (λ pred. is_met_at d list place pred i)
       → finishes_at list place i ≡ false → TellsLevel preds d list (onward i k) place (with_met level now)
   level_next place k level now later before tells stays = record {
     met = met_next place k level.met now later before.met tells;
     done = done_next place k level.done later before.done stays;
   }
 
-  level_settled : (place : List ℕ) (k : ℕ) (level : PredicateLevel) (now : StateRow) → i ≤ k → TellsLevel preds d list k place level → IsRowOf preds now (λ pred. is_met_at d list place pred i)
-      → finishes_at list place i ≡ true → TellsLevel preds d list (onward i k) place (settled_level (with_met level now))
+  level_settled : (place : List ℕ) (k : ℕ) (level : PredicateLevel) (now : StateRow) → i ≤ k
+      → TellsLevel preds d list k place level → IsRowOf preds now (λ pred. is_met_at d list place pred i)
+      → finishes_at list place i ≡ true
+      → TellsLevel preds d list (onward i k) place (settled_level (with_met level now))
   level_settled place k level now later before tells finishes = record {
     met = met_next place k level.met now later before.met tells;
-    done = sym (sym (any_onward (finishes_at list place) i k later) ∙ right_so (is_finished list k place) (finishes_at list place i) finishes);
+    done = sym (sym (any_onward (finishes_at list place) i k later)
+        ∙ right_so (is_finished list k place) (finishes_at list place i) finishes);
   }
 
-  level_same : (place : List ℕ) (k : ℕ) (level : PredicateLevel) → i ≤ k → TellsLevel preds d list k place level → ((pred : Pred) → is_met_at d list place pred i ≡ false)
+  level_same : (place : List ℕ) (k : ℕ) (level : PredicateLevel) → i ≤ k → TellsLevel preds d list k place level
+      → ((pred : Pred) → is_met_at d list place pred i ≡ false)
       → finishes_at list place i ≡ false → TellsLevel preds d list (onward i k) place level
   level_same place k level later before none stays = record {
     met = λ n pred is.
-        before.met n pred is ∙ sym (ap (λ b. is_met d list k place pred || b) (none pred) ∙ or_false (is_met d list k place pred))
+        before.met n pred is ∙ sym
+        (ap (λ b. is_met d list k place pred || b) (none pred) ∙ or_false (is_met d list k place pred))
         ∙ any_onward (is_met_at d list place pred) i k later;
     done = done_next place k level.done later before.done stays;
   }
@@ -243,8 +282,10 @@ module _ (preds : List Pred) (d : Doc) (list : List Event) (i : ℕ) where
     known_next : (p : List ℕ) → begins_at list p i ≡ false → onward i (known p) ≡ knows_next list i known p
     known_next p old = sym (ap (λ b. cond (not b && nat_lt i (known p)) (known p) (suc i)) old)
 
-    all_next : (places : List (List ℕ)) (rows : List StateRow) (levels : List PredicateLevel) → TellLevels preds d list known places levels → TellNow preds d list i places rows
-        → ((p : List ℕ) → Has places p → i ≤ known p) → ((p : List ℕ) → Has places p → begins_at list p i ≡ false) → ((p : List ℕ) → Has places p → finishes_at list p i ≡ false)
+    all_next : (places : List (List ℕ)) (rows : List StateRow) (levels : List PredicateLevel)
+        → TellLevels preds d list known places levels → TellNow preds d list i places rows
+        → ((p : List ℕ) → Has places p → i ≤ known p) → ((p : List ℕ) → Has places p → begins_at list p i ≡ false)
+        → ((p : List ℕ) → Has places p → finishes_at list p i ≡ false)
         → TellLevels preds d list (knows_next list i known) places (all_met rows levels)
     all_next [] rows [] before tells read old stays = tt
     all_next [] rows (level ∷ levels) before tells read old stays = absurd before
@@ -253,20 +294,24 @@ module _ (preds : List Pred) (d : Doc) (list : List Event) (i : ℕ) where
     all_next (place ∷ places) (now ∷ rows) (level ∷ levels) before tells read old stays = (
       subst (λ k. TellsLevel preds d list k place (with_met level now)) (known_next place (old place (0, refl)))
           (level_next place (known place) level now (read place (0, refl)) before.0 tells.0 (stays place (0, refl))),
-      all_next places rows levels before.1 tells.1 (λ p h. read p (has_later place p places h)) (λ p h. old p (has_later place p places h)) (λ p h. stays p (has_later place p places h)),
+      all_next places rows levels before.1 tells.1 (λ p h. read p (has_later place p places h))
+          (λ p h. old p (has_later place p places h)) (λ p h. stays p (has_later place p places h)),
     )
 
     -- an event that meets nothing and finishes nothing
     all_same : (places : List (List ℕ)) (levels : List PredicateLevel) → TellLevels preds d list known places levels
         → ((p : List ℕ) → Has places p → i ≤ known p) → ((p : List ℕ) → Has places p → begins_at list p i ≡ false)
-        → ((p : List ℕ) (pred : Pred) → is_met_at d list p pred i ≡ false) → ((p : List ℕ) → finishes_at list p i ≡ false) → TellLevels preds d list (knows_next list i known) places levels
+        → ((p : List ℕ) (pred : Pred) → is_met_at d list p pred i ≡ false)
+        → ((p : List ℕ) → finishes_at list p i ≡ false)
+        → TellLevels preds d list (knows_next list i known) places levels
     all_same [] [] before read old none stays = tt
     all_same [] (level ∷ levels) before read old none stays = absurd before
     all_same (place ∷ places) [] before read old none stays = absurd before
     all_same (place ∷ places) (level ∷ levels) before read old none stays = (
       subst (λ k. TellsLevel preds d list k place level) (known_next place (old place (0, refl)))
           (level_same place (known place) level (read place (0, refl)) before.0 (none place) (stays place)),
-      all_same places levels before.1 (λ p h. read p (has_later place p places h)) (λ p h. old p (has_later place p places h)) none stays,
+      all_same places levels before.1 (λ p h. read p (has_later place p places h))
+          (λ p h. old p (has_later place p places h)) none stays,
     )
 
   never_finishes : (event : Event) (p : List ℕ) → slice_get list i ≡ Some event → is_finish event ≡ false → finishes_at list p i ≡ false
@@ -280,10 +325,13 @@ module _ (preds : List Pred) (d : Doc) (list : List Event) (i : ℕ) where
       true≢false (sym m.hit ∙ ap (λ e. hits e (attributes_at list i) m.x pred.attribute pred.cmp) same ∙ none (attributes_at list i) m.x pred))
 
 -- An element around the innermost one doesn't finish.
-around_stays : (list : List Event) (i : ℕ) (element : OpenPlace) (up : List OpenPlace) (p : List ℕ) → open_at list i ≡ element ∷ up → Has (places_of up) p → finishes_at list p i ≡ false
+around_stays : (list : List Event) (i : ℕ) (element : OpenPlace) (up : List OpenPlace) (p : List ℕ)
+    → open_at list i ≡ element ∷ up → Has (places_of up) p → finishes_at list p i ≡ false
 around_stays list i element up p opened h = is_false (finishes_at list p i) (λ so.
     other_place list i element up p opened h
-    (same_text element.place p (sym (ap (innermost_is_at p) (sym opened) ∙ second_so (option_map_or is_finish (slice_get list i) false) (innermost_is_at p (open_at list i)) so))))
+    (same_text element.place p
+    (sym (ap (innermost_is_at p) (sym opened)
+    ∙ second_so (option_map_or is_finish (slice_get list i) false) (innermost_is_at p (open_at list i)) so))))
 
 module _ (names : List (List ℕ)) (d : Doc) (list : List Event) (few : length names ≤ 256) (spells : Spells names (Some d) list) where
   -- ---- before its Begin
@@ -322,68 +370,100 @@ module _ (names : List (List ℕ)) (d : Doc) (list : List Event) (few : length n
     }
 
     module _ (known : Knowledge) where
-      begin_next : (elements : List OpenPlace) (tag : ℕ) (row : List ℕ) (rows : List StateRow) (levels : List PredicateLevel)
+      begin_next : (elements : List OpenPlace) (tag : ℕ) (row : List ℕ) (rows : List StateRow)
+          (levels : List PredicateLevel)
           → slice_get list i ≡ Some (Begin tag row) → open_at list i ≡ elements
           → TellNow preds d list i (places_of (open_with elements (Begin tag row))) rows
           → TellLevels preds d list known (places_of elements) levels
-          → ((p : List ℕ) → Has (places_of elements) p → i ≤ known p) → ((p : List ℕ) → Has (places_of elements) p → begins_at list p i ≡ false)
-          → TellLevels preds d list (knows_next list i known) (places_of (open_after elements (Begin tag row))) (begun_levels rows levels)
+          → ((p : List ℕ) → Has (places_of elements) p → i ≤ known p)
+          → ((p : List ℕ) → Has (places_of elements) p → begins_at list p i ≡ false)
+          → TellLevels preds d list (knows_next list i known) (places_of (open_after elements (Begin tag row)))
+          (begun_levels rows levels)
       begin_next elements tag row [] levels is opened tells before read old = absurd tells
       begin_next elements tag row (now ∷ rows) levels is opened tells before read old =
           let place : List ℕ = next_place elements in
-          let next : open_at list (suc i) ≡ open_after elements (Begin tag row) = open-next [] list i (Begin tag row) is ∙ ap (λ es. open_after es (Begin tag row)) opened in
-          let stand : StandInDocument names d (open_after elements (Begin tag row)) = subst (StandInDocument names d) next (stand_at names d list (suc i) few spells) in
-          let there : at d place ≡ Some stand.0.e = chain_at-below d.root [] place stand.0.e stand.0.above stand.0.there in
+          let next : open_at list (suc i) ≡ open_after elements (Begin tag row) =
+          open-next [] list i (Begin tag row) is ∙ ap (λ es. open_after es (Begin tag row)) opened in
+          let stand : StandInDocument names d (open_after elements (Begin tag row)) =
+          subst (StandInDocument names d) next (stand_at names d list (suc i) few spells) in
+          let there : at d place ≡ Some stand.0.e =
+          chain_at-below d.root [] place stand.0.e stand.0.above stand.0.there in
           let begins : begins_at list place i ≡ true =
           both_so (option_map_or is_begin (slice_get list i) false) (innermost_is_at place (open_at list (i + 1)))
           (ap (λ o. option_map_or is_begin o false) is)
-          (ap (λ k. innermost_is_at place (open_at list k)) (add-one i) ∙ ap (innermost_is_at place) next ∙ same_place place) in
-          let stays : (p : List ℕ) → finishes_at list p i ≡ false = λ p. never_finishes preds d list i (Begin tag row) p is refl in (
-            subst (λ k. TellsLevel preds d list k place (new_level now)) (sym (ap (λ b. cond (not b && nat_lt i (known place)) (known place) (suc i)) begins))
+          (ap (λ k. innermost_is_at place (open_at list k)) (add-one i) ∙ ap (innermost_is_at place) next
+          ∙ same_place place) in
+          let stays : (p : List ℕ)
+          → finishes_at list p i ≡ false = λ p. never_finishes preds d list i (Begin tag row) p is refl in (
+            subst (λ k. TellsLevel preds d list k place (new_level now))
+                (sym (ap (λ b. cond (not b && nat_lt i (known place)) (known place) (suc i)) begins))
                 (begun_level place stand.0.e now there begins (stays place) tells.0),
-            subst (λ ps. TellLevels preds d list (knows_next list i known) ps (all_met rows levels)) (sym (places_of-with_child elements))
-                (all_next preds d list i known (places_of elements) rows levels before (subst (λ ps. TellNow preds d list i ps rows) (places_of-with_child elements) tells.1)
+            subst (λ ps. TellLevels preds d list (knows_next list i known) ps (all_met rows levels))
+                (sym (places_of-with_child elements))
+                (all_next preds d list i known (places_of elements) rows levels before
+                (subst (λ ps. TellNow preds d list i ps rows) (places_of-with_child elements) tells.1)
                 read old (λ p h. stays p)),
           )
 
       finish_next : (elements : List OpenPlace) (tag : ℕ) (rows : List StateRow) (levels : List PredicateLevel)
           → slice_get list i ≡ Some (Finish tag) → open_at list i ≡ elements
-          → TellNow preds d list i (places_of elements) rows → TellLevels preds d list known (places_of elements) levels
-          → ((p : List ℕ) → Has (places_of elements) p → i ≤ known p) → ((p : List ℕ) → Has (places_of elements) p → begins_at list p i ≡ false)
-          → TellLevels preds d list (knows_next list i known) (places_of (drop 1 elements)) (drop 1 (all_met rows levels))
+          → TellNow preds d list i (places_of elements) rows
+          → TellLevels preds d list known (places_of elements) levels
+          → ((p : List ℕ) → Has (places_of elements) p → i ≤ known p)
+          → ((p : List ℕ) → Has (places_of elements) p → begins_at list p i ≡ false)
+          → TellLevels preds d list (knows_next list i known) (places_of (drop 1 elements))
+          (drop 1 (all_met rows levels))
       finish_next [] tag rows [] is opened tells before read old = tt
       finish_next [] tag rows (level ∷ levels) is opened tells before read old = absurd before
       finish_next (element ∷ up) tag rows [] is opened tells before read old = absurd before
       finish_next (element ∷ up) tag [] (level ∷ levels) is opened tells before read old = absurd tells
       finish_next (element ∷ up) tag (now ∷ rows) (level ∷ levels) is opened tells before read old =
           all_next preds d list i known (places_of up) rows levels before.1 tells.1
-          (λ p h. read p (has_later element.place p (places_of up) h)) (λ p h. old p (has_later element.place p (places_of up) h))
+          (λ p h. read p (has_later element.place p (places_of up) h))
+          (λ p h. old p (has_later element.place p (places_of up) h))
           (λ p h. around_stays list i element up p opened h)
 
       event_by : (event : Event) (rows : List StateRow) (levels : List PredicateLevel) → slice_get list i ≡ Some event
-          → TellNow preds d list i (places_of (open_with (open_at list i) event)) rows → TellLevels preds d list known (places_of (open_at list i)) levels
-          → ((p : List ℕ) → Has (places_of (open_at list i)) p → i ≤ known p) → ((p : List ℕ) → Has (places_of (open_at list i)) p → begins_at list p i ≡ false)
-          → TellLevels preds d list (knows_next list i known) (places_of (open_after (open_at list i) event)) (levels_after_event event rows levels)
-      event_by (Begin tag row) rows levels is tells before read old = begin_next (open_at list i) tag row rows levels is refl tells before read old
+          → TellNow preds d list i (places_of (open_with (open_at list i) event)) rows
+          → TellLevels preds d list known (places_of (open_at list i)) levels
+          → ((p : List ℕ) → Has (places_of (open_at list i)) p → i ≤ known p)
+          → ((p : List ℕ) → Has (places_of (open_at list i)) p → begins_at list p i ≡ false)
+          → TellLevels preds d list (knows_next list i known) (places_of (open_after (open_at list i) event))
+          (levels_after_event event rows levels)
+      event_by (Begin tag row) rows levels is tells before read old =
+          begin_next (open_at list i) tag row rows levels is refl tells before read old
       event_by (Attr piece) rows levels is tells before read old =
-          all_next preds d list i known (places_of (open_at list i)) rows levels before tells read old (λ p h. never_finishes preds d list i (Attr piece) p is refl)
-      event_by HeadEnd rows levels is tells before read old = all_same preds d list i known (places_of (open_at list i)) levels before read old
-          (never_meets preds d list i HeadEnd is (λ n x pred. refl)) (λ p. never_finishes preds d list i HeadEnd p is refl)
-      event_by (Text piece) rows levels is tells before read old = all_same preds d list i known (places_of (open_at list i)) levels before read old
-          (never_meets preds d list i (Text piece) is (λ n x pred. refl)) (λ p. never_finishes preds d list i (Text piece) p is refl)
-      event_by (Finish tag) rows levels is tells before read old = finish_next (open_at list i) tag rows levels is refl tells before read old
-      event_by End rows levels is tells before read old = all_same preds d list i known (places_of (open_at list i)) levels before read old
+          all_next preds d list i known (places_of (open_at list i)) rows levels before tells read old
+          (λ p h. never_finishes preds d list i (Attr piece) p is refl)
+      event_by HeadEnd rows levels is tells before read old =
+          all_same preds d list i known (places_of (open_at list i)) levels before read old
+          (never_meets preds d list i HeadEnd is (λ n x pred. refl))
+          (λ p. never_finishes preds d list i HeadEnd p is refl)
+      event_by (Text piece) rows levels is tells before read old =
+          all_same preds d list i known (places_of (open_at list i)) levels before read old
+          (never_meets preds d list i (Text piece) is (λ n x pred. refl))
+          (λ p. never_finishes preds d list i (Text piece) p is refl)
+      event_by (Finish tag) rows levels is tells before read old =
+          finish_next (open_at list i) tag rows levels is refl tells before read old
+      event_by End rows levels is tells before read old =
+          all_same preds d list i known (places_of (open_at list i)) levels before read old
           (never_meets preds d list i End is (λ n x pred. refl)) (λ p. never_finishes preds d list i End p is refl)
 
       -- After an event the levels tell what is known after it.
-      pub levels_next : (event : Event) (rows : List StateRow) (levels : List PredicateLevel) → slice_get list i ≡ Some event
+      pub levels_next : (event : Event) (rows : List StateRow) (levels : List PredicateLevel)
+          → slice_get list i ≡ Some event
           → TellNow preds d list i (places_of (open_with (open_at list i) event)) rows
-          → KnowsNoLessAt (places_of (open_at list i)) (first_events i) known → TellLevels preds d list known (places_of (open_at list i)) levels
-          → TellLevels preds d list (knows_next list i known) (places_of (open_at list (i + 1))) (levels_after_event event rows levels)
+          → KnowsNoLessAt (places_of (open_at list i)) (first_events i) known
+          → TellLevels preds d list known (places_of (open_at list i)) levels
+          → TellLevels preds d list (knows_next list i known) (places_of (open_at list (i + 1)))
+          (levels_after_event event rows levels)
       levels_next event rows levels is tells read before =
-          subst (λ k. TellLevels preds d list (knows_next list i known) (places_of (open_at list k)) (levels_after_event event rows levels)) (sym (add-one i))
-          (subst (λ es. TellLevels preds d list (knows_next list i known) (places_of es) (levels_after_event event rows levels)) (sym (open-next [] list i event is))
-          (event_by event rows levels is tells before (at_each (places_of (open_at list i)) (first_events i) known read) (begun_before list i)))
+          subst (λ k. TellLevels preds d list (knows_next list i known) (places_of (open_at list k))
+          (levels_after_event event rows levels)) (sym (add-one i))
+          (subst (λ es. TellLevels preds d list (knows_next list i known) (places_of es)
+          (levels_after_event event rows levels)) (sym (open-next [] list i event is))
+          (event_by event rows levels is tells before
+          (at_each (places_of (open_at list i)) (first_events i) known read) (begun_before list i)))
 
   -- ---- the bounds
 
@@ -625,37 +705,50 @@ finishes_here list i tag element up is opened =
     both_so (option_map_or is_finish (slice_get list i) false) (innermost_is_at element.place (open_at list i)) (ap (λ o. option_map_or is_finish o false) is)
     (ap (innermost_is_at element.place) opened ∙ same_place element.place)
 
-finish_known : (preds : List Pred) (d : Doc) (list : List Event) (i tag : ℕ) (known : Knowledge) (elements : List OpenPlace) (rows : List StateRow) (levels : List PredicateLevel)
+finish_known : (preds : List Pred) (d : Doc) (list : List Event) (i tag : ℕ) (known : Knowledge)
+    (elements : List OpenPlace) (rows : List StateRow) (levels : List PredicateLevel)
     → slice_get list i ≡ Some (Finish tag) → open_at list i ≡ elements
     → TellNow preds d list i (places_of elements) rows → TellLevels preds d list known (places_of elements) levels
-    → ((p : List ℕ) → Has (places_of elements) p → i ≤ known p) → ((p : List ℕ) → Has (places_of elements) p → begins_at list p i ≡ false)
+    → ((p : List ℕ) → Has (places_of elements) p → i ≤ known p)
+    → ((p : List ℕ) → Has (places_of elements) p → begins_at list p i ≡ false)
     → TellLevels preds d list (knows_next list i known) (places_of elements) (settled_levels (all_met rows levels))
 finish_known preds d list i tag known [] rows [] is opened tells before read old = tt
 finish_known preds d list i tag known [] rows (level ∷ levels) is opened tells before read old = absurd before
 finish_known preds d list i tag known (element ∷ up) rows [] is opened tells before read old = absurd before
-finish_known preds d list i tag known (element ∷ up) [] (level ∷ levels) is opened tells before read old = absurd tells
+finish_known preds d list i tag known (element ∷ up) [] (level ∷ levels) is opened tells before read old =
+    absurd tells
 finish_known preds d list i tag known (element ∷ up) (now ∷ rows) (level ∷ levels) is opened tells before read old = (
-  subst (λ k. TellsLevel preds d list k element.place (settled_level (with_met level now))) (known_next preds d list i known element.place (old element.place (0, refl)))
-      (level_settled preds d list i element.place (known element.place) level now (read element.place (0, refl)) before.0 tells.0 (finishes_here list i tag element up is opened)),
+  subst (λ k. TellsLevel preds d list k element.place (settled_level (with_met level now)))
+      (known_next preds d list i known element.place (old element.place (0, refl)))
+      (level_settled preds d list i element.place (known element.place) level now
+      (read element.place (0, refl)) before.0 tells.0 (finishes_here list i tag element up is opened)),
   all_next preds d list i known (places_of up) rows levels before.1 tells.1
-      (λ p h. read p (has_later element.place p (places_of up) h)) (λ p h. old p (has_later element.place p (places_of up) h))
+      (λ p h. read p (has_later element.place p (places_of up) h))
+      (λ p h. old p (has_later element.place p (places_of up) h))
       (λ p h. around_stays list i element up p opened h),
 )
 
 -- Before the innermost element is closed, the levels can tell what its Finish tells, too.
-pub levels_settle : (preds : List Pred) (d : Doc) (list : List Event) (i tag : ℕ) (known : Knowledge) (rows : List StateRow) (levels : List PredicateLevel)
+pub levels_settle : (preds : List Pred) (d : Doc) (list : List Event) (i tag : ℕ) (known : Knowledge)
+    (rows : List StateRow) (levels : List PredicateLevel)
     → slice_get list i ≡ Some (Finish tag) → TellNow preds d list i (places_of (open_at list i)) rows
-    → KnowsNoLessAt (places_of (open_at list i)) (first_events i) known → TellLevels preds d list known (places_of (open_at list i)) levels
-    → TellLevels preds d list (knows_next list i known) (places_of (open_at list i)) (settled_levels (all_met rows levels))
+    → KnowsNoLessAt (places_of (open_at list i)) (first_events i) known
+    → TellLevels preds d list known (places_of (open_at list i)) levels
+    → TellLevels preds d list (knows_next list i known) (places_of (open_at list i))
+    (settled_levels (all_met rows levels))
 levels_settle preds d list i tag known rows levels is tells read before =
-    finish_known preds d list i tag known (open_at list i) rows levels is refl tells before (at_each (places_of (open_at list i)) (first_events i) known read) (begun_before list i)
+    finish_known preds d list i tag known (open_at list i) rows levels is refl tells before
+    (at_each (places_of (open_at list i)) (first_events i) known read) (begun_before list i)
 
 -- An event that is known already meets nothing new.
 met_again : (p : ℕ → Bool) (i k : ℕ) → i < k → (list_any p (counted k) || p i) ≡ list_any p (counted k)
-met_again p i k less = any_onward p i k (omega (arith, less)) ∙ ap (λ b. list_any p (counted (cond b k (suc i)))) (lt-ltb i k less)
+met_again p i k less = any_onward p i k (omega (arith, less))
+    ∙ ap (λ b. list_any p (counted (cond b k (suc i)))) (lt-ltb i k less)
 
-all_again : (preds : List Pred) (d : Doc) (list : List Event) (i : ℕ) (known : Knowledge) (places : List (List ℕ)) (rows : List StateRow) (levels : List PredicateLevel)
-    → TellNow preds d list i places rows → TellLevels preds d list known places levels → ((p : List ℕ) → Has places p → suc i ≤ known p) → TellLevels preds d list known places (all_met rows levels)
+all_again : (preds : List Pred) (d : Doc) (list : List Event) (i : ℕ) (known : Knowledge) (places : List (List ℕ))
+    (rows : List StateRow) (levels : List PredicateLevel)
+    → TellNow preds d list i places rows → TellLevels preds d list known places levels
+    → ((p : List ℕ) → Has places p → suc i ≤ known p) → TellLevels preds d list known places (all_met rows levels)
 all_again preds d list i known [] rows [] tells tell read = tt
 all_again preds d list i known [] rows (level ∷ levels) tells tell read = absurd tell
 all_again preds d list i known (place ∷ places) rows [] tells tell read = absurd tell
@@ -664,7 +757,8 @@ all_again preds d list i known (place ∷ places) (now ∷ rows) (level ∷ leve
   record {
     met = λ n pred is.
         let within : suc i ≤ known place = read place (0, refl) in
-        ap (λ b. b || now n) (tell.0.met n pred is) ∙ ap (λ b. is_met d list (known place) place pred || b) (tells.0 n pred is)
+        ap (λ b. b || now n) (tell.0.met n pred is)
+        ∙ ap (λ b. is_met d list (known place) place pred || b) (tells.0 n pred is)
         ∙ met_again (is_met_at d list place pred) i (known place) (omega (arith, within));
     done = tell.0.done;
   },
@@ -672,13 +766,15 @@ all_again preds d list i known (place ∷ places) (now ∷ rows) (level ∷ leve
 )
 
 -- What an event meets changes nothing where the event is known.
-pub levels_again : (preds : List Pred) (d : Doc) (list : List Event) (i : ℕ) (known : Knowledge) (places : List (List ℕ)) (rows : List StateRow) (levels : List PredicateLevel)
+pub levels_again : (preds : List Pred) (d : Doc) (list : List Event) (i : ℕ) (known : Knowledge)
+    (places : List (List ℕ)) (rows : List StateRow) (levels : List PredicateLevel)
     → TellNow preds d list i places rows
     → KnowsNoLessAt places (first_events (i + 1)) known → TellLevels preds d list known places levels
     → TellLevels preds d list known places (all_met rows levels)
 levels_again preds d list i known places rows levels tells read tell =
     all_again preds d list i known places rows levels tells tell
-    (λ p h. let least : i + 1 ≤ known p = at_each places (first_events (i + 1)) known read p h in omega (arith, least))
+    (λ p h. let least : i + 1 ≤ known p =
+    at_each places (first_events (i + 1)) known read p h in omega (arith, least))
 
 -- Of an element beyond the levels of a look-ahead no more is known.
 pub learned_beyond : (preds : List Pred) (d : Doc) (list : List Event) (level : ℕ) (own ahead : Knowledge) (place : List ℕ) (one : PredicateLevel)

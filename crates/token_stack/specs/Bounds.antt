@@ -1,6 +1,7 @@
 -- What the first events of a list tell about predicates, and the bounds that follow for the elements that
 -- a rule selects. The *bearer* of a predicate is its context node (XPath 1.0, 1). Defined by this project.
-use Rattle.std.specs.Prelude.{◌≡◌, ◌≤◌, ◌<◌, ℕ, suc, Bool, true, false, nat_eq, nat_le, nat_lt, not, ◌&&◌, ◌||◌, Option, Some, None, List, [], ◌∷◌, length, if◌then◌else◌}
+use Rattle.std.specs.Prelude.{◌≡◌, ◌≤◌, ◌<◌, ℕ, suc, Bool, true, false, nat_eq, nat_le, nat_lt, not, ◌&&◌, ◌||◌}
+use Rattle.std.specs.Prelude.{Option, Some, None, List, [], ◌∷◌, length, if◌then◌else◌}
 use Rattle.std.specs.List.{list_any, list_all}
 use Rattle.std.specs.Option.{option_map_or}
 use Rattle.acl_model.specs.NameTests.{passes}
@@ -133,8 +134,8 @@ learned level own ahead bearer =
 
 -- ---- one event more
 
--- what is known at each bearer after the event at index i: the first i + 1 events, or more where more were known before.
--- At the element that begins with this event no more than these i + 1 are known.
+-- what is known at each bearer after the event at index i: the first i + 1 events, or more where more were known
+-- before. At the element that begins with this event these i + 1 are known.
 abbrev pub knows_next : List Event → ℕ → Knowledge → Knowledge
 knows_next list i known bearer =
     if not (begins_at list bearer i) && nat_lt i (known bearer) then known bearer else suc i

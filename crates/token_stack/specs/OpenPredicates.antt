@@ -5,9 +5,9 @@ use Rattle.std.specs.List.{list_any}
 use Rattle.acl_model.specs.declared.path.Step.{Step}
 use Rattle.token_stack.specs.PredicateLevels.{PredicateLevel, StepTests}
 
--- A predicate is open at an element, by the element's name and its level: the name passes the name test of the step that
--- bears the predicate, and the predicate is neither met nor has failed. The two numbers are those of the step's state
--- and of the predicate.
+-- A predicate is open at an element, by the element's name and its level: the name passes the name test of the step
+-- that has the predicate, and the predicate is neither met nor has failed. The first number is that of the step's
+-- state, and the second one that of the predicate.
 abbrev pub is_open : StepTests → ℕ → List ℕ → PredicateLevel → ℕ → Bool
 is_open tests step name level n = tests.lets step name && (not (level.met n) && not level.done)
 

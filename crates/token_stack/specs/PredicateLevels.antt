@@ -21,9 +21,9 @@ use Rattle.token_stack.specs.Hits.{hits}
 use Rattle.token_stack.specs.StateRows.{StateRow, SuffixStates, IsSuffix, empty_suffix, HasEmptyAlone}
 use Rattle.token_stack.specs.StateRows.{StepStates, last_of_path, taken_row}
 
--- Of numbered predicates, the row has exactly those for which a test is true. Where the row is one of states, the number
--- of a predicate is that of its state. Then the list has more members than the rules have predicates: before each of
--- these it has the shorter suffixes of its path, each with the same attribute and comparison.
+-- Of numbered predicates, the row has exactly those for which a test is true. In a row of states the number of a
+-- predicate is that of its state (`AreSuffixes`). So the list has more members than the rules have predicates: before
+-- each of these it has the shorter suffixes of its path, each with the same attribute and comparison.
 abbrev pub IsRowOf : List Pred → StateRow → (Pred → Bool) → Type 0
 IsRowOf preds row test = (n : ℕ) (pred : Pred) → slice_get preds n ≡ Some pred → row n ≡ test pred
 
@@ -132,10 +132,10 @@ learned_levels level (one ∷ up) ahead =
 abbrev pub names_at : Doc → List (List ℕ) → List (List ℕ)
 names_at d places = map (λ place. option_map_or (λ (e : Element). e.name) (at d place) []) places
 
--- Each of the numbered predicates is the suffix with its number. As each number is that of a state, this holds only of a
--- list in which each shorter suffix of a predicate's path is the path of a member, too. For a row of `IsHitRow` such a
--- member must also ask for the same, that is, have the predicate's attribute and comparison: the empty suffix stands for
--- all of them.
+-- Each of the numbered predicates is the suffix with its number. Each number is that of a state, so this holds only of
+-- a list in which each shorter suffix of a predicate's path is a member, too. Such a member must have the same
+-- attribute and comparison: all suffixes of a path share the empty one, whose state is in the row of what an event
+-- shows (`IsHitRow`).
 abbrev pub AreSuffixes : SuffixStates → List Pred → Type 0
 AreSuffixes states preds = (n : ℕ) (pred : Pred) → slice_get preds n ≡ Some pred → IsSuffix states n pred.way
 

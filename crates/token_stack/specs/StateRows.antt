@@ -35,8 +35,8 @@ pub record SuffixStates : Type 0 where
   -- The name passes the name test of the one step that the next suffix has more.
   pub lets : ℕ → List ℕ → Bool
 
--- The state with this number is the suffix `way`, and those before it are the shorter suffixes of it, from the empty one
--- on. No state goes on to that one.
+-- The state with this number is the suffix `way`, and those before it are the shorter suffixes of it, from the empty
+-- one on. No state goes on to the empty suffix.
 abbrev pub IsSuffix : SuffixStates → ℕ → List PredStep → Type 0
 IsSuffix states zero [] = states.deep zero ≡ false
 IsSuffix states (suc n) [] = (states.deep (suc n) ≡ false) × (states.goes n ≡ false)

@@ -22,8 +22,8 @@ ghost use Rattle.acl_walk.specs.inside.CloseExamples.{nested, nested_events};
 ghost use Rattle.acl_walk.specs.Spelling.{Spells};
 ghost use Rattle.acl_walk.specs.declared.event.Event.{Event};
 ghost use Rattle.rule_automata.specs.Compile.{automata_of, have_no_predicates, is_empty_of};
-ghost use Rattle.token_stack.specs.Bounds.{PredicateTruth, Knowledge, first_events, KnowsNoLess, KnowsNoLessAt, model_truth};
-ghost use Rattle.token_stack.specs.Bounds.{is_settled, sure_truth, may_truth};
+ghost use Rattle.token_stack.specs.Bounds.{PredicateTruth, Knowledge, first_events, KnowsNoLess, KnowsNoLessAt};
+ghost use Rattle.token_stack.specs.Bounds.{model_truth, is_settled, sure_truth, may_truth};
 ghost use Rattle.token_stack.specs.Bounds.{IsAtMost, selects_by, are_settled, learned};
 ghost use Rattle.token_stack.specs.Bounds.{KnowsNoLessUpTo, AreRulesBeyond, rows_up_to};
 ghost use Rattle.token_stack.specs.Bounds.{rules_by, sure_rules, may_rules, place_of_level, AreStillOpen, StandsBy};
@@ -175,13 +175,20 @@ pub fn standing_sets_are_right()
         → is_member (possibly level) n ≡ true → is_member (surely level) n ≡ true }
 {}
 
-/// After a look-ahead no less is known. At an element of the levels that it tells of, the rules that surely
-/// select and those that may are those by what is known ahead, if that is no less at the element and its
+/// After a look-ahead no less is known, so that the events before are known still. At the elements of the levels
+/// that it tells of then no more is known than ahead, if it was so before. At such an element the rules that
+/// surely select and those that may are those by what is known ahead, if that is no less at the element and its
 /// ancestors. The elements of the levels up to one are still open ahead if at no index between fewer elements
 /// are open.
 pub fn a_look_ahead_tells_more()
     ensures more { (level : ℕ) (own ahead : Knowledge)
         → KnowsNoLess own (learned level own ahead) }
+    ensures read { (level i : ℕ) (own ahead : Knowledge) (places : List (List ℕ))
+        → KnowsNoLessAt places (first_events i) own
+        → KnowsNoLessAt places (first_events i) (learned level own ahead) }
+    ensures no_more { (list : List Event) (i level : ℕ) (own ahead : Knowledge)
+        → KnowsNoLessUpTo list i level own ahead
+        → KnowsNoLessUpTo list i level (learned level own ahead) ahead }
     ensures sure { (rules : List Rule) (d : Doc) (list : List Event) (level : ℕ)
         (own ahead : Knowledge) (place : List ℕ) → length place < level
         → KnowsNoLessAt (prefixes place) own ahead
@@ -197,9 +204,9 @@ pub fn a_look_ahead_tells_more()
         → AreStillOpen list i ahead level }
 {}
 
-/// After a look-ahead, sets of rules stand by what is known then. The elements of the levels that it tells of must still
-/// be open ahead, and no less must be known there. Up to this level the sets are those that stand ahead. At deeper
-/// levels they are the rules by what is known after the look-ahead.
+/// After a look-ahead, sets of rules stand by what is known then. The elements of the levels that it tells of
+/// must still be open ahead, and no less must be known of them there. Up to this level the sets are those that
+/// stand ahead. At deeper levels they are the rules by what is known after the look-ahead.
 pub fn standing_sets_follow_a_look_ahead()
     ensures { (rules : List Rule) (d : Doc) (list : List Event) (i j level : ℕ)
         (own ahead : Knowledge) (surely possibly ahead_surely ahead_possibly : ℕ → List ℕ)

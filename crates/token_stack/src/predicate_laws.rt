@@ -26,7 +26,8 @@ ghost use Rattle.acl_walk.specs.Spelling.{Spells};
 ghost use Rattle.acl_walk.specs.declared.event.Event.{Event};
 ghost use Rattle.acl_walk.specs.declared.event.Event.TheVariants.{Begin, Attr, Finish};
 ghost use Rattle.token_stack.specs.Bounds.{PredicateTruth, Knowledge, first_events, sure_truth, may_truth, learned};
-ghost use Rattle.token_stack.specs.Bounds.{KnowsNoLessAt, knows_next, place_of_level, AreStillOpen, StandsBy};
+ghost use Rattle.token_stack.specs.Bounds.{KnowsNoLessAt, KnowsNoLessUpTo, knows_next};
+ghost use Rattle.token_stack.specs.Bounds.{place_of_level, AreStillOpen, StandsBy};
 ghost use Rattle.token_stack.specs.Bounds.{is_settled, is_kept_by, selects_by, rules_by, sure_rules, may_rules};
 ghost use Rattle.token_stack.specs.Hits.{open_with, hits, HitsInside};
 ghost use Rattle.token_stack.specs.OpenPredicates.{is_open, have_open};
@@ -125,10 +126,10 @@ pub fn rows_rise_from_the_innermost_element()
         (risen states hit (names_from d (place ++ (k ∷ [])) more)) (λ n. states.lets n c.name) }
 {}
 
-/// In a list that spells a document, the levels of the open elements follow from event to event, whatever is known at
-/// each of them, if at least the events before are. The rows have what the event meets at each element that is open with
-/// it. What a Finish tells can be known before its element is closed: there all predicates that aren't met have failed.
-/// What an event meets changes nothing where the event is known.
+/// In a list that spells a document, the levels of the open elements follow from event to event. At each of them at
+/// least the events before are known, and after a look-ahead more are. The rows have what the event meets at each
+/// element that is open with it. What a Finish tells can be known before its element is closed: there all predicates
+/// that aren't met have failed. What an event meets changes nothing where the event is known.
 pub fn levels_follow_events()
     ensures start { (preds : List Pred) (d : Doc) (list : List Event) (known : Knowledge)
         → TellLevels preds d list known (places_of (open_at list 0)) [] }
@@ -157,15 +158,19 @@ pub fn levels_follow_events()
         → TellLevels preds d list known places (all_met rows levels) }
 {}
 
-/// After an event it is known at each element, and at an element that was open before no less is known than then. Where
-/// exactly the events before were known, exactly one more is known. Levels tell what is known at the places that they
-/// are of, whatever is known elsewhere.
+/// After an event it is known at each element, and at an element that was open before no less is known than then. So a
+/// look-ahead that takes one more event still knows no less at the elements that stay open. Where exactly the events
+/// before were known, exactly one more is known. Levels tell what is known at the places that they are of, whatever is
+/// known elsewhere.
 pub fn one_event_more_is_known()
     ensures read { (list : List Event) (i : ℕ) (known : Knowledge) (places : List (List ℕ))
         → KnowsNoLessAt places (first_events (i + 1)) (knows_next list i known) }
     ensures no_less { (list : List Event) (i : ℕ) (known : Knowledge) (level : ℕ) (place : List ℕ)
         → place_of_level (open_at list i) level ≡ Some place
         → known place ≤ knows_next list i known place }
+    ensures onward { (list : List Event) (i j level : ℕ) (own ahead : Knowledge)
+        → AreStillOpen list i j level → KnowsNoLessUpTo list i level own ahead
+        → KnowsNoLessUpTo list i level own (knows_next list j ahead) }
     ensures exact { (list : List Event) (i : ℕ) (bearer : List ℕ)
         → knows_next list i (first_events i) bearer ≡ first_events (i + 1) bearer }
     ensures elsewhere { (preds : List Pred) (d : Doc) (list : List Event) (known more : Knowledge)
@@ -264,10 +269,10 @@ pub fn levels_join()
         → TellsLevel preds d list (learned level own ahead place) place one }
 {}
 
-/// A predicate is open at an element exactly where the name passes the test of the step that bears it and the predicate
+/// A predicate is open at an element exactly where the name passes the test of the step that has it and the predicate
 /// isn't settled by what is known. So it isn't open at other elements, nor after `settled_level` or once the element's
-/// Finish is known, nor once an event is known that meets it. By two levels of an element together it is open where it is
-/// open by both.
+/// Finish is known, nor once an event is known that meets it. By two levels of an element together it is open where it
+/// is open by both.
 pub fn open_predicates_are_not_settled()
     ensures test { (tests : StepTests) (step : ℕ) (s : Step) (name : List ℕ)
         (level : PredicateLevel) (n : ℕ)
@@ -327,8 +332,8 @@ pub fn levels_follow_a_look_ahead()
         (learned_levels level levels other) }
 {}
 
-/// In a list that spells a document, the levels of the open elements give sets of rules that stand by what is known. The
-/// levels of an element and of those around it are the outermost ones, and so are their names.
+/// In a list that spells a document, the levels of the open elements give sets of rules that stand by what is known.
+/// The levels of an element and of those around it are the outermost ones, and so are their names.
 pub fn levels_give_the_standing_sets()
     ensures outermost { (d : Doc) (list : List Event) (i : ℕ) (preds : List Pred)
         (known : Knowledge) (levels : List PredicateLevel) (k : ℕ) (place : List ℕ)

@@ -1,5 +1,6 @@
 -- The laws of OpenPredicateLaws.
-use Rattle.token_stack.proofs.OpenPredicateLaws.{open_passes, open_settled, open_finished, open_met, open_joined, open_is}
+use Rattle.token_stack.proofs.OpenPredicateLaws.{open_passes, open_settled, open_finished, open_met, open_joined}
+use Rattle.token_stack.proofs.OpenPredicateLaws.{open_is}
 use Rattle.token_stack.proofs.predicate_laws.open_predicates_are_not_settled.Goals as goal
 
 pub returns : goal.returns
