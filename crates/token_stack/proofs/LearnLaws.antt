@@ -167,7 +167,8 @@ module _ (rules : List Rule) (d : Doc) (list : List Event) (i j level : ℕ) (ow
             let least : i ≤ own place = stand.read k place is in
             let grows : own place ≤ learned level own ahead place = learned-more level own ahead place in
             omega (arith, least, grows);
-        sure = λ k place is. row_by ahead_surely deeper_surely (sure_rules rules d list (learned level own ahead) place) k
+        sure = λ k place is. row_by ahead_surely deeper_surely
+            (sure_rules rules d list (learned level own ahead) place) k
             (λ near.
             let here = near_level k place near is in
             onward.sure k place (sym (still k near) ∙ is)

@@ -223,4 +223,5 @@ module _ (names : List (List ℕ)) (d : Doc) (list : List Event) (few : length n
           let settled = places_settled (prefixes place) (outermost k levels) (begins n) rule.path.steps
           (outermost_levels preds d list i known levels k place tell is) are same in
           absurd (true≢false (sym
-          (settled_row names rules d list spells i known surely possibly k place n rule stand is there settled may) ∙ unsure))
+          (settled_row names rules d list spells i known surely possibly k place n rule stand is there settled may)
+          ∙ unsure))

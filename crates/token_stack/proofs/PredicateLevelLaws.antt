@@ -201,7 +201,8 @@ pub next_onward : (list : List Event) (i j level : ℕ) (own ahead : Knowledge) 
     → KnowsNoLessUpTo list i level own ahead → KnowsNoLessUpTo list i level own (knows_next list j ahead)
 next_onward list i j level own ahead still more k place near is =
     let least : own place ≤ ahead place = more k place near is in
-    let grows : ahead place ≤ knows_next list j ahead place = next_more list j ahead k place (sym (still k near) ∙ is) in
+    let grows : ahead place ≤ knows_next list j ahead place =
+    next_more list j ahead k place (sym (still k near) ∙ is) in
     omega (arith, least, grows)
 
 -- Where exactly the first i events are known, the first i + 1 are known after the event.
@@ -227,8 +228,10 @@ levels_same preds d list known more (place ∷ places) [] to from tell = absurd 
 levels_same preds d list known more (place ∷ places) (level ∷ levels) to from tell =
     let least : known place ≤ more place = to.0 in
     let most : more place ≤ known place = from.0 in
-    let same : known place ≡ more place = omega (arith, least, most) in
-    (subst (λ k. TellsLevel preds d list k place level) same tell.0, levels_same preds d list known more places levels to.1 from.1 tell.1)
+    let same : known place ≡ more place = omega (arith, least, most) in (
+      subst (λ k. TellsLevel preds d list k place level) same tell.0,
+      levels_same preds d list known more places levels to.1 from.1 tell.1,
+    )
 
 module _ (preds : List Pred) (d : Doc) (list : List Event) (i : ℕ) where
   -- ---- one level

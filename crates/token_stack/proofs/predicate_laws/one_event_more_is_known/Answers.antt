@@ -3,4 +3,10 @@ use Rattle.token_stack.proofs.PredicateLevelLaws.{next_known, next_more, next_on
 use Rattle.token_stack.proofs.predicate_laws.one_event_more_is_known.Goals as goal
 
 pub returns : goal.returns
-returns c = record { read = next_known; no_less = next_more; onward = next_onward; exact = next_first; elsewhere = levels_same }
+returns c = record {
+  read = next_known;
+  no_less = next_more;
+  onward = next_onward;
+  exact = next_first;
+  elsewhere = levels_same;
+}

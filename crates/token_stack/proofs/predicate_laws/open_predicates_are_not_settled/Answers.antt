@@ -6,7 +6,8 @@ use Rattle.token_stack.proofs.predicate_laws.open_predicates_are_not_settled.Goa
 pub returns : goal.returns
 returns c = record {
   test = open_passes;
-  exact = λ names d list preds known tests place e level step s n pred few spells. open_is names d list few spells preds known tests place e level step s n pred;
+  exact = λ names d list preds known tests place e level step s n pred few spells.
+      open_is names d list few spells preds known tests place e level step s n pred;
   settled = open_settled;
   finished = open_finished;
   met_whole = open_met;
