@@ -30,6 +30,7 @@ use Rattle.token_stack.specs.StateRows.{StepStates, ArePath, last_of_path, taken
 use Rattle.token_stack.specs.TokensStand.{StandInDocument}
 use Rattle.token_stack.proofs.BoundRows.{other_number, AtLevel, level_found, level_at, at_each, open_has}
 use Rattle.token_stack.proofs.BoundRows.{learned-more, learned_sure, learned_may}
+use Rattle.token_stack.proofs.BoundRows.{learned-read}
 use Rattle.token_stack.proofs.OpenLaws.{stand_at}
 use Rattle.token_stack.proofs.PredicateLevelLaws.{chain_at-below, joined_back, joined_learned, learned_beyond}
 use Rattle.token_stack.proofs.PredicateLevelLaws.{levels_sure_rules, levels_may_rules}
@@ -396,3 +397,30 @@ levels_stand names rules d list i preds known states tests begins levels few spe
       ∙ sym (levels_may_rules names rules d list preds known states tests begins place e.0
       (outermost k levels) few spells are e.1 (outermost_levels preds d list i known levels k place tell is));
 }
+
+-- After a look-ahead the sets that stand ahead and those of the learned levels stand.
+pub learned_levels_stand : (names : List (List ℕ)) (rules : List Rule) (d : Doc) (list : List Event) (i j level : ℕ)
+    → (preds : List Pred) (own ahead : Knowledge) (states : StepStates) (tests : StepTests) (begins : ℕ → ℕ)
+    → (levels other : List PredicateLevel) (ahead_surely ahead_possibly : ℕ → List ℕ) → length names ≤ 256
+    → Spells names (Some d) list
+    → ((n : ℕ) (rule : Rule) → slice_get rules n ≡ Some rule
+    → ArePath states (begins n) rule.path.steps × AreTestsOf preds tests (begins n) rule.path.steps)
+    → AreStillOpen list i j level → KnowsNoLessUpTo list i level own ahead
+    → KnowsNoLessAt (places_of (open_at list i)) (first_events i) own
+    → TellLevels preds d list own (places_of (open_at list i)) levels
+    → TellLevels preds d list ahead (places_of (open_at list j)) other
+    → StandsBy rules d list j ahead ahead_surely ahead_possibly
+    → StandsBy rules d list i (learned level own ahead)
+    (rows_up_to level ahead_surely (rules_of_level rules states tests begins are_all_met
+    (names_at d (places_of (open_at list i))) (learned_levels level levels other)))
+    (rows_up_to level ahead_possibly (rules_of_level rules states tests begins may_all_be
+    (names_at d (places_of (open_at list i))) (learned_levels level levels other)))
+learned_levels_stand names rules d list i j level preds own ahead states tests begins levels other surely possibly few
+    spells are still more read tell onward stand =
+    let before = levels_stand names rules d list i preds own states tests begins levels few spells are read tell in
+    let after = levels_stand names rules d list i preds (learned level own ahead) states tests begins
+    (learned_levels level levels other) few spells are
+    (learned-read level i own ahead (places_of (open_at list i)) read)
+    (levels_learn preds d list i j level own ahead other still onward levels tell) in
+    learned_stands rules d list i j level own ahead still more _ _ surely possibly _ _ before stand
+    (λ k place far is. (after.sure k place is, after.may k place is))

@@ -27,7 +27,7 @@ ghost use Rattle.acl_walk.specs.declared.event.Event.{Event};
 ghost use Rattle.acl_walk.specs.declared.event.Event.TheVariants.{Begin, Attr, Finish};
 ghost use Rattle.token_stack.specs.Bounds.{PredicateTruth, Knowledge, first_events, sure_truth, may_truth, learned};
 ghost use Rattle.token_stack.specs.Bounds.{KnowsNoLessAt, KnowsNoLessUpTo, knows_next};
-ghost use Rattle.token_stack.specs.Bounds.{place_of_level, AreStillOpen, StandsBy};
+ghost use Rattle.token_stack.specs.Bounds.{place_of_level, AreStillOpen, rows_up_to, StandsBy};
 ghost use Rattle.token_stack.specs.Bounds.{is_settled, is_kept_by, selects_by, rules_by, sure_rules, may_rules};
 ghost use Rattle.token_stack.specs.Hits.{open_with, hits, HitsInside};
 ghost use Rattle.token_stack.specs.OpenPredicates.{is_open, have_open};
@@ -321,15 +321,34 @@ pub fn undecided_rules_have_an_open_predicate()
 
 /// After a look-ahead, the levels of the open elements that are joined with those of the same number ahead, up to a
 /// level, tell what is known then. These elements must still be open ahead. Numbers are counted from the root, so that
-/// it doesn't matter how many elements inside them are open ahead.
+/// it doesn't matter how many elements inside them are open ahead. The sets that stand ahead up to this level, and
+/// those that the joined levels give at deeper ones, stand after the look-ahead.
 pub fn levels_follow_a_look_ahead()
-    ensures { (preds : List Pred) (d : Doc) (list : List Event) (i j level : ℕ)
+    ensures tell { (preds : List Pred) (d : Doc) (list : List Event) (i j level : ℕ)
         (own ahead : Knowledge) (levels other : List PredicateLevel)
         → AreStillOpen list i j level
         → TellLevels preds d list own (places_of (open_at list i)) levels
         → TellLevels preds d list ahead (places_of (open_at list j)) other
         → TellLevels preds d list (learned level own ahead) (places_of (open_at list i))
         (learned_levels level levels other) }
+    ensures stand { (names : List (List ℕ)) (rules : List Rule) (d : Doc) (list : List Event)
+        (i j level : ℕ) (preds : List Pred) (own ahead : Knowledge) (states : StepStates)
+        (tests : StepTests) (begins : ℕ → ℕ) (levels other : List PredicateLevel)
+        (ahead_surely ahead_possibly : ℕ → List ℕ) → length names ≤ most_names
+        → Spells names (Some d) list
+        → ((n : ℕ) (rule : Rule) → slice_get rules n ≡ Some rule
+        → ArePath states (begins n) rule.path.steps
+        × AreTestsOf preds tests (begins n) rule.path.steps)
+        → AreStillOpen list i j level → KnowsNoLessUpTo list i level own ahead
+        → KnowsNoLessAt (places_of (open_at list i)) (first_events i) own
+        → TellLevels preds d list own (places_of (open_at list i)) levels
+        → TellLevels preds d list ahead (places_of (open_at list j)) other
+        → StandsBy rules d list j ahead ahead_surely ahead_possibly
+        → StandsBy rules d list i (learned level own ahead)
+        (rows_up_to level ahead_surely (rules_of_level rules states tests begins are_all_met
+        (names_at d (places_of (open_at list i))) (learned_levels level levels other)))
+        (rows_up_to level ahead_possibly (rules_of_level rules states tests begins may_all_be
+        (names_at d (places_of (open_at list i))) (learned_levels level levels other))) }
 {}
 
 /// In a list that spells a document, the levels of the open elements give sets of rules that stand by what is known.
