@@ -118,8 +118,8 @@ abbrev pub joined_with : PredicateLevel → Option PredicateLevel → PredicateL
 joined_with one None = one
 joined_with one (Some other) = joined_level one other
 
--- the levels after a look-ahead. Each element up to a level number, counted from the root, is joined with the level
--- that has the same number ahead; the deeper ones stay.
+-- the levels after a look-ahead. Each one up to this number, counted from the root, is joined with the one that has the
+-- same number ahead, and the deeper ones stay.
 abbrev pub learned_levels : ℕ → List PredicateLevel → List PredicateLevel → List PredicateLevel
 learned_levels level [] ahead = []
 learned_levels level (one ∷ up) ahead =
