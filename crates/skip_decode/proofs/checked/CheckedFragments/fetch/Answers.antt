@@ -135,7 +135,7 @@ returns-clause-went g c = λ past led.
           c.fetch.result new.fault c.fetch.ensures.stays c.fetch.ensures.grown
           (c.fetch.ensures.ends quiet) (c.fetch.ensures.checked quiet)
           (c.fetch.ensures.cause quiet) c.fetch.ensures.never_falls (c.fetch.ensures.quiet quiet)
-          (c.fetch.ensures.quiet_else quiet) new.quiet)),
+          (c.fetch.ensures.quiet_else quiet) c.fetch.ensures.only new.quiet)),
     )
 
 pub returns-clause-given : goal.returns-clause-given

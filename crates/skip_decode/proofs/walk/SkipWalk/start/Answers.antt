@@ -29,7 +29,7 @@ returns-clause-good g c =
 
 pub returns-in_err-names-clause-held : goal.returns-in_err-names-clause-held
 returns-in_err-names-clause-held g c = λ d origin told.
-    let p = err_from_is_err_and c.from_residual.result c.from_residual.ensures.1 in
+    let p = err_from_is_err_and c.from_residual-in_err-names.result c.from_residual-in_err-names.ensures.1 in
     let same = c.in_ok-start.ensures.opener in
     let old = c.in_ok-start.start.window.source.opener in
     let new = c.read_names.new.self.window.source.opener in
