@@ -1,0 +1,5 @@
+//! Tests of the walk over a file in a store. No other crate uses this one.
+#![tactic(auto)]
+
+#[cfg(test)]
+mod tests;
