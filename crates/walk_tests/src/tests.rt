@@ -55,12 +55,13 @@ fn section(alloc: Global, names: &str) -> Result<Vec<u8>, Fail> {
 }
 
 /// Enciphers fragments in place.
-fn lock(stream: &mut [u8]) {
+fn lock(stream: &mut [u8]) -> Result<(), Fail> {
     let key = Key128::new(KEY);
     let (fragments, _) = stream.as_chunks_mut::<256>();
     for (index, fragment) in fragments.iter_mut().enumerate() {
-        lock_fragment(&key, index as u32, fragment);
+        lock_fragment(&key, u32::try_from(index)?, fragment);
     }
+    Ok(())
 }
 
 /// The file of a stream that was worked out by hand: names, a tree section, and the header's depth. All digests are
@@ -89,7 +90,7 @@ fn sealed(
     let mut stream = section;
     stream.extend_from_slice(tree)?;
     stream.resize(256 * count, 0)?;
-    lock(&mut stream);
+    lock(&mut stream)?;
     let mut table = Vec::new(alloc);
     table.resize(table_len(count as u32), 0)?;
     let top = write_table(&stream, &mut table);
@@ -174,9 +175,9 @@ fn tell_next<W: Walk>(
     requires placed { W.broken walk.old ≡ None → (d : Doc) → W.is_origin (W.fixed walk.old) d
         → W.sound walk.old d ≡ true → W.is_place (W.fixed walk.old) d spot.old }
     ensures same { W.fixed walk.new ≡ W.fixed walk.old }
-    ensures made { W.made (W.fixed walk.old) spot.new }
-    ensures placed { W.broken walk.new ≡ None → (d : Doc) → W.is_origin (W.fixed walk.old) d
-        → W.sound walk.new d ≡ true → W.is_place (W.fixed walk.old) d spot.new }
+    ensures made { W.made (W.fixed walk.new) spot.new }
+    ensures placed { W.broken walk.new ≡ None → (d : Doc) → W.is_origin (W.fixed walk.new) d
+        → W.sound walk.new d ≡ true → W.is_place (W.fixed walk.new) d spot.new }
 {
     match walk.next(spot) {
         Ok(event) => {
@@ -202,9 +203,9 @@ fn told<W: Walk>(
     requires placed { W.broken walk.old ≡ None → (d : Doc) → W.is_origin (W.fixed walk.old) d
         → W.sound walk.old d ≡ true → W.is_place (W.fixed walk.old) d spot.old }
     ensures same { W.fixed walk.new ≡ W.fixed walk.old }
-    ensures made { W.made (W.fixed walk.old) spot.new }
-    ensures placed { W.broken walk.new ≡ None → (d : Doc) → W.is_origin (W.fixed walk.old) d
-        → W.sound walk.new d ≡ true → W.is_place (W.fixed walk.old) d spot.new }
+    ensures made { W.made (W.fixed walk.new) spot.new }
+    ensures placed { W.broken walk.new ≡ None → (d : Doc) → W.is_origin (W.fixed walk.new) d
+        → W.sound walk.new d ≡ true → W.is_place (W.fixed walk.new) d spot.new }
 {
     let mut out = Vec::new(alloc);
     for _ in 0..most {

@@ -46,16 +46,27 @@ fn opened(alloc: Global, served: &[Served]) -> Result<Vec<u8>, Fail> {
     Ok(out)
 }
 
+/// Takes some events of the file with this root in a store, and passes. Returns the events after the pass.
+fn told_after_pass<S: Store>(
+    rt: &impl Abort,
+    alloc: Global,
+    store: &mut S,
+    root: Digest,
+    taken: u16,
+) -> Result<Vec<u8>, Fail> {
+    let mut walk = walk_over(rt, alloc, store, root);
+    let mut spot = walk.new_spot(alloc)?;
+    told(alloc, &mut walk, &mut spot, taken, true)?;
+    walk.pass(&mut spot);
+    told(alloc, &mut walk, &mut spot, 99, true)
+}
+
 /// Takes some events and passes. Returns the events after the pass, and the fragments that were opened.
 fn passed(rt: &impl Abort, alloc: Global, lines: &[u8], taken: u16) -> Result<[Vec<u8>; 2], Fail> {
     let file = file(rt, alloc, lines)?;
     let store = SureStore::new(file.bytes.into_vec());
     let mut store = Recorder::new(alloc, store, 200, 50_000)?;
-    let mut walk = walk_over(rt, alloc, &mut store, file.root);
-    let mut spot = walk.new_spot(alloc)?;
-    told(alloc, &mut walk, &mut spot, taken, true)?;
-    walk.pass(&mut spot);
-    let events = told(alloc, &mut walk, &mut spot, 99, true)?;
+    let events = told_after_pass(rt, alloc, &mut store, file.root, taken)?;
     Ok([events, opened(alloc, store.served())?])
 }
 

@@ -80,15 +80,11 @@ fn what_is_passed_is_not_looked_into(rt: HostRuntime) -> Result<(), Fail> {
     let mut store = SureStore::new(file.bytes.into_vec());
     let mut walk = walk_over(&rt, alloc, &mut store, file.root);
     let mut spot = walk.new_spot(alloc)?;
-    let mut other = walk.new_spot(alloc)?;
     let events = told(alloc, &mut walk, &mut spot, 3, true)?;
     assert_eq!(rt; events.as_slice(), b"<0 1;=;<1;".as_slice());
-    walk.copy_spot(&spot, &mut other);
     walk.pass(&mut spot);
     let events = told(alloc, &mut walk, &mut spot, 9, true)?;
     assert_eq!(rt; events.as_slice(), b">1;>0;.".as_slice());
-    let events = told(alloc, &mut walk, &mut other, 9, true)?;
-    assert_eq!(rt; events.as_slice(), b"!".as_slice());
     Ok(())
 }
 
@@ -98,7 +94,7 @@ fn put_head(out: &mut Vec<u8>, long: usize, inner: bool, around: usize) -> Resul
     let (front, bits) = if inner { (7u64, 3) } else { (2, 2) };
     for width in 0..24u32 {
         let bytes = (bits + width).div_ceil(8);
-        if long + around + (bytes as usize) < 1 << width {
+        if long.saturating_add(around).saturating_add(bytes as usize) < 1 << width {
             let head = (front << width | long as u64) << (64 - bits - width);
             out.extend_from_slice(&head.to_be_bytes()[..bytes as usize])?;
             return Ok(());

@@ -26,7 +26,7 @@ fn two_texts(alloc: Global, filler: usize, long: usize) -> Result<Vec<u8>, Fail>
 /// fragment ends.
 fn put_pieces(out: &mut Vec<u8>, from: usize, long: usize) -> Result<(), Fail> {
     for index in 0..long {
-        if index > 0 && (from + index) % 256 == 0 {
+        if index > 0 && from.wrapping_add(index) % 256 == 0 {
             put(out, "+;")?;
         }
         out.push(b'a' + (index % 26) as u8)?;
@@ -63,7 +63,7 @@ fn pieces_end_where_their_text_or_the_fragment_ends(rt: HostRuntime) -> Result<(
 }
 
 #[test]
-fn a_spot_copied_inside_a_text_gives_the_same_events(rt: HostRuntime) -> Result<(), Fail> {
+fn a_spot_copied_inside_a_text_goes_on_there(rt: HostRuntime) -> Result<(), Fail> {
     let alloc = rt.alloc();
     let file = file(&rt, alloc, &two_texts(alloc, 300, 900)?)?;
     let mut store = SureStore::new(file.bytes.into_vec());
@@ -73,15 +73,13 @@ fn a_spot_copied_inside_a_text_gives_the_same_events(rt: HostRuntime) -> Result<
     told(alloc, &mut walk, &mut first, 5, true)?;
     walk.copy_spot(&first, &mut second);
     assert_eq!(rt; walk.place(&second), 512);
-    let one = told(alloc, &mut walk, &mut first, 99, true)?;
-    let other = told(alloc, &mut walk, &mut second, 99, true)?;
-    assert_eq!(rt; one, other);
+    let events = told(alloc, &mut walk, &mut second, 99, true)?;
     // The second text begins at 316, so that 196 of its bytes come before 512.
     let mut want = Vec::new(alloc);
     put_pieces(&mut want, 316, 900)?;
     put(&mut want, ">0;.")?;
     assert!(rt; want.len() > 198);
-    assert_eq!(rt; one.as_slice(), &want[198..]);
+    assert_eq!(rt; events.as_slice(), &want[198..]);
     Ok(())
 }
 
